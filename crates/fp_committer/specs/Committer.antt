@@ -94,22 +94,39 @@ MakesItsCall _ a old new = new ≡ old
 -- that is answered
 pub record KeepsTold {D : Type 0} (disk : Ghosts D) (old : CommitterState D) (answer : Answer)
     (new : CommitterState D) : Type 0 where
+  -- What was told is the greater of what was told before and the revision of an `Acked`.
   pub told : new.told ≡ told_after old.told answer
+  -- Store and desk are the same ones.
   pub same : (new.store.store ≡ old.store.store) × (new.desk.store ≡ old.desk.store)
+  -- H: at any moment any crash state stands for the set after some first accepted edits, as many
+  -- as were told before it or more.
   pub any_moment : AtAnyMoment disk old.store.disk new.store.disk
       (KeptFrom new.desk old.told)
+  -- H: after it, as many as were told by then or more.
   pub exit : EachCrash disk new.store.disk (KeptFrom new.desk new.told)
+  -- The disk is honest after it exactly if it was before.
   pub honest : SameHonesty disk old.store.disk new.store.disk
+  -- The disk's count of failures rises exactly where `Device` is answered.
   pub cause : RisesFor answer (disk.faults old.store.disk) (disk.faults new.store.disk)
 
 -- what an event changes: it is a step of the plain machine, the log grows by the accepted edit, what
 -- was settled stays so, and it makes its call
 pub record StepsBy {D : Type 0} (disk : Ghosts D) (old : CommitterState D) (e : Event) (a : Answer)
     (new : CommitterState D) : Type 0 where
+  -- A step of the plain machine: which answer the event gets, in both directions, and what it
+  -- changes. At a compaction's end the room is a slot's bytes less those of its head, the image
+  -- of the set that was sealed as it began, and the batches sealed since.
   pub steps : CommitStep (commits_of old) e a (commits_of new)
+  -- The log grows by the edit that was answered by a ticket, and by nothing else.
   pub log : log new.desk ≡ log old.desk ++ accepted_by e a
+  -- What was settled stays.
   pub settled : IsPrefix old.desk.settled new.desk.settled
+  -- H: a crash at any moment keeps all that was told before it, and one after it all that was
+  -- told by then. The disk's failures rise exactly where `Device` is answered.
   pub kept : KeepsTold disk old a new
+  -- At most one call of the disk, of one kind for each event but `Compact`: `Stage` and
+  -- `OpenGate` write, `SyncBody` and `SyncGate` sync. None of the others, and none where it isn't
+  -- the event's turn.
   pub called : MakesItsCall e a (disk.calls old.store.disk) (disk.calls new.store.disk)
 
 -- ---- the invariant

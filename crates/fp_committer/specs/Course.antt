@@ -20,9 +20,14 @@ use Rattle.fp_committer.specs.declared.fault.CommitFault.TheVariants.{StoreFaile
 -- The disk was called, and what was drawn and settled stayed as it was: whatever a crash leaves at
 -- any moment stands for some first edits that were drawn, among them all that are settled
 pub record CallsOn {D : Type 0} (disk : Ghosts D) (a b : StoreHalfState D) : Type 0 where
+  -- What is drawn, what the half lists and which store it is stay.
   pub same : (b.half ≡ a.half) × (b.drawn ≡ a.drawn) × (b.store.store ≡ a.store.store)
+  -- H: any crash state at any moment stands for the set after some first edits that were drawn,
+  -- all that are settled among them.
   pub any_moment : AtAnyMoment disk a.store.disk b.store.disk (KeptBy b)
+  -- H: so does any crash state after the call.
   pub exit : EachCrash disk b.store.disk (KeptBy b)
+  -- The disk is honest after it exactly if it was before.
   pub honest : SameHonesty disk a.store.disk b.store.disk
 
 -- the disk was let alone, and more was drawn, or settled, which a crash keeps from then on

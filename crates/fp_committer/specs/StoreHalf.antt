@@ -114,12 +114,19 @@ IsSilent _ = Unit {0}
 -- settled; nobody is told of it; and the device failed exactly where that is answered
 pub record KeepsHalf {D : Type 0} (disk : Ghosts D) (old : StoreHalfState D) (answer : Answer)
     (new : StoreHalfState D) : Type 0 where
+  -- The answer acknowledges no revision.
   pub silent : IsSilent answer
+  -- What is drawn, what the half lists and which store it is stay.
   pub same : (new.half ≡ old.half) × (new.drawn ≡ old.drawn)
       × (new.store.store ≡ old.store.store)
+  -- H: any crash state at any moment stands for the set after some first edits that were drawn,
+  -- all that are settled among them.
   pub any_moment : AtAnyMoment disk old.store.disk new.store.disk (KeptBy new)
+  -- H: so does any crash state after the call.
   pub exit : EachCrash disk new.store.disk (KeptBy new)
+  -- The disk is honest after it exactly if it was before.
   pub honest : SameHonesty disk old.store.disk new.store.disk
+  -- The disk's count of failures rises exactly where `Device` is answered.
   pub cause : RisesFor answer (disk.faults old.store.disk) (disk.faults new.store.disk)
 
 -- ---- the invariant

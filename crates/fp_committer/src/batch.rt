@@ -16,8 +16,13 @@ use std::mem;
 impl<D: Disk> StoreHalf<D> {
     /// Writes what is drawn. All memory of the batch is taken here.
     pub fn stage(&mut self) -> Answer
+        // A step of the plain machine: `Done` where a batch is drawn and has room, which is then
+        // staged; else `NotNow`. `Device` and `Failed` are told as the store tells them; `Memory`
+        // changes nothing.
         ensures steps { Stages (taken_by self.old) (way_by self.old) result (way_by self.new) }
+        // H: any crash state at any moment keeps all that is settled.
         ensures kept { KeepsHalf D.Disk self.old result self.new }
+        // `Done`: one call of the disk, a write; `Device`: that one or none; else none.
         ensures called { MakesOne Write result (D.calls self.old.store.disk)
             (D.calls self.new.store.disk) }
     {
@@ -46,10 +51,14 @@ impl<D: Disk> StoreHalf<D> {
         Answer::Fault(fault)
     }
 
-    /// Makes sure of the batch.
+    /// Makes sure of the batch that was staged.
     pub fn sync_body(&mut self) -> Answer
+        // A step of the plain machine: `Done` where the batch is staged, and it is synced then;
+        // else `NotNow`, or `Device` or `Failed`.
         ensures steps { SyncsBody (taken_by self.old) (way_by self.old) result (way_by self.new) }
+        // H: any crash state at any moment keeps all that is settled.
         ensures kept { KeepsHalf D.Disk self.old result self.new }
+        // `Done`: one call of the disk, a sync; `Device`: that one or none; else none.
         ensures called { MakesOne Sync result (D.calls self.old.store.disk)
             (D.calls self.new.store.disk) }
     {
@@ -66,10 +75,14 @@ impl<D: Disk> StoreHalf<D> {
         Answer::Fault(fault)
     }
 
-    /// Opens the gate in front of the batch.
+    /// Opens the gate in front of the batch that was synced.
     pub fn open_gate(&mut self) -> Answer
+        // A step of the plain machine: `Done` where the batch is synced, and its gate is opened
+        // then; else `NotNow`, or `Device` or `Failed`.
         ensures steps { OpensGate (taken_by self.old) (way_by self.old) result (way_by self.new) }
+        // H: any crash state at any moment keeps all that is settled.
         ensures kept { KeepsHalf D.Disk self.old result self.new }
+        // `Done`: one call of the disk, a write; `Device`: that one or none; else none.
         ensures called { MakesOne Write result (D.calls self.old.store.disk)
             (D.calls self.new.store.disk) }
     {
@@ -88,8 +101,12 @@ impl<D: Disk> StoreHalf<D> {
 
     /// Makes sure of the gate: the batch is sealed, up to the revision that is answered.
     pub fn sync_gate(&mut self) -> Answer
+        // A step of the plain machine: `Sealed` where the gate was opened, and the batch takes
+        // its bytes of the room; else `NotNow`, or `Device` or `Failed`.
         ensures steps { Seals (taken_by self.old) (way_by self.old) result (way_by self.new) }
+        // H: any crash state at any moment keeps all that is settled.
         ensures kept { KeepsHalf D.Disk self.old result self.new }
+        // `Sealed`: one call of the disk, a sync; `Device`: that one or none; else none.
         ensures called { MakesOne Sync result (D.calls self.old.store.disk)
             (D.calls self.new.store.disk) }
     {
@@ -111,8 +128,13 @@ impl<D: Disk> StoreHalf<D> {
 
     /// Takes the next step of a compaction. Memory can be wanting only as one begins.
     pub fn compact_step(&mut self) -> Answer
+        // A step of the plain machine: `Phase` names the step that follows, where one may be
+        // taken; else `NotNow`, or `Device` or `Failed`; `Memory`, only as one begins, changes
+        // nothing. At the last step what a slot has beside head, image and tail is room.
         ensures steps { StepsOn (taken_by self.old) (way_by self.old) result (way_by self.new) }
+        // H: any crash state at any moment keeps all that is settled.
         ensures kept { KeepsHalf D.Disk self.old result self.new }
+        // `Phase` and `Device`: one call of the disk at most; else none.
         ensures called { MakesOfCompaction result (D.calls self.old.store.disk)
             (D.calls self.new.store.disk) }
     {

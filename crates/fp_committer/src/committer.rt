@@ -52,15 +52,21 @@ impl<D: Disk> Model for Committer<D> {
 }
 
 impl<D: Disk> Committer<D> {
-    /// A store as it was made or opened, and a desk over its opening.
+    /// A committer over a store as it was made or opened and its opening, for who drives both
+    /// halves by one event after another.
     pub fn new(
         alloc: Global,
         store: Store<D>,
         opening: Opening,
     ) -> Result<Committer<D>, (AllocError, Store<D>, Opening)>
+        // The opening is this store's.
         requires opening { opening ≡ store.store }
+        // The store is as it was made or opened.
         requires fresh { IsFresh store store.store.start }
+        // `Ok`: nothing is accepted yet or on its way, and what was told is the revision that the
+        // store began with.
         ensures made { IfOk result (λ w. IsNewCommitter store w) }
+        // `Err`: store and opening come back.
         ensures given_back { IfErr result (λ e. (e.1 ≡ store) × (e.2 ≡ opening)) }
     {
         let start = opening.revision();
@@ -74,9 +80,10 @@ impl<D: Disk> Committer<D> {
         })
     }
 
-    /// Does what the event asks. A crash at any moment of it keeps all that was told before it, and
-    /// a crash after it all that was told by then.
+    /// Does what the event asks: one call of the desk, or a call of the disk by the store. A call
+    /// of its own does each of the events too.
     pub fn step(&mut self, event: &Event) -> Answer
+        // All of it is one record, `StepsBy`.
         ensures { StepsBy D.Disk self.old event.now result self.new }
     {
         match event {
@@ -92,8 +99,10 @@ impl<D: Disk> Committer<D> {
         }
     }
 
-    /// Takes an edit. The room for its ticket is taken first.
+    /// Takes an edit, and gives the revision that it makes. The room for its ticket is taken
+    /// first.
     pub fn submit(&mut self, edit: &Edit) -> Answer
+        // As of `Committer::step` at `Submit`.
         ensures { StepsBy D.Disk self.old (asked.Submit edit.now) result self.new }
     {
         self.store.rest();
@@ -113,8 +122,9 @@ impl<D: Disk> Committer<D> {
         }
     }
 
-    /// Draws a batch.
+    /// Draws a batch of what waits.
     pub fn draw(&mut self) -> Answer
+        // As of `Committer::step` at `Draw`.
         ensures { StepsBy D.Disk self.old asked.Draw result self.new }
     {
         self.store.rest();
@@ -129,6 +139,7 @@ impl<D: Disk> Committer<D> {
 
     /// Settles what is sealed.
     pub fn settle(&mut self) -> Answer
+        // As of `Committer::step` at `Settle`.
         ensures { StepsBy D.Disk self.old asked.Settle result self.new }
     {
         self.store.rest();
@@ -141,8 +152,10 @@ impl<D: Disk> Committer<D> {
         Answer::Settled(revision)
     }
 
-    /// Acknowledges whether the edit of this revision is settled, where its ticket was given.
+    /// Acknowledges whether the edit of this revision is settled, where its ticket was given. So
+    /// its revision is told.
     pub fn ack(&mut self, revision: u64) -> Answer
+        // As of `Committer::step` at `Ack`.
         ensures { StepsBy D.Disk self.old (asked.Ack revision) result self.new }
     {
         self.store.rest();
@@ -161,14 +174,16 @@ impl<D: Disk> Committer<D> {
 
     /// Writes what is drawn.
     pub fn stage(&mut self) -> Answer
+        // As of `Committer::step` at `Stage`.
         ensures { StepsBy D.Disk self.old asked.Stage result self.new }
     {
         self.store.rest();
         self.store.stage()
     }
 
-    /// Makes sure of what is in flight.
+    /// Makes sure of what was written.
     pub fn sync_body(&mut self) -> Answer
+        // As of `Committer::step` at `SyncBody`.
         ensures { StepsBy D.Disk self.old asked.SyncBody result self.new }
     {
         self.store.rest();
@@ -177,6 +192,7 @@ impl<D: Disk> Committer<D> {
 
     /// Opens the gate of what is in flight.
     pub fn open_gate(&mut self) -> Answer
+        // As of `Committer::step` at `OpenGate`.
         ensures { StepsBy D.Disk self.old asked.OpenGate result self.new }
     {
         self.store.rest();
@@ -185,6 +201,7 @@ impl<D: Disk> Committer<D> {
 
     /// Seals what is in flight.
     pub fn sync_gate(&mut self) -> Answer
+        // As of `Committer::step` at `SyncGate`.
         ensures { StepsBy D.Disk self.old asked.SyncGate result self.new }
     {
         self.store.rest();
@@ -193,6 +210,7 @@ impl<D: Disk> Committer<D> {
 
     /// Takes the next step of a compaction.
     pub fn compact(&mut self) -> Answer
+        // As of `Committer::step` at `Compact`.
         ensures { StepsBy D.Disk self.old asked.Compact result self.new }
     {
         self.store.rest();
@@ -201,7 +219,10 @@ impl<D: Disk> Committer<D> {
 
     /// Shows that the disk keeps what was told. Does nothing when it runs.
     pub fn rest(&self)
+        // What was told is settled.
         ensures low { self.now.told ≤ settled_revision self.now.desk }
+        // H: any crash state stands for the set after some first accepted edits, all that were
+        // told among them.
         ensures exit { EachCrash D.Disk self.now.store.disk
             (KeptFrom self.now.desk self.now.told) }
     {
@@ -216,10 +237,14 @@ impl<D: Disk> Committer<D> {
         self.desk.desk()
     }
 
-    /// This revision, which is settled, is told too.
+    /// This revision, which is settled, is told too: by a frame or a reply, say.
     pub fn tell(&mut self, revision: u64)
+        // The revision is settled.
         requires { revision ≤ settled_revision self.old.desk }
+        // What was told is the greater of what was and this revision.
         ensures told { self.new ≡ record self.old { told = max self.old.told revision } }
+        // H: any crash state stands for the set after some first accepted edits, all that were
+        // told among them.
         ensures exit { EachCrash D.Disk self.new.store.disk
             (KeptFrom self.new.desk self.new.told) }
     {
@@ -229,6 +254,7 @@ impl<D: Disk> Committer<D> {
 
     /// Gives back what it was made of, where no edit was accepted.
     pub fn into_parts(self) -> (Store<D>, Opening)
+        // No edit was accepted.
         requires { log self.desk ≡ [] }
         ensures store { result.0 ≡ self.store }
         ensures opening { result.1 ≡ self.store.store }
@@ -243,12 +269,18 @@ impl<D: Disk> Committer<D> {
         (store.into_store(), desk.into_opening())
     }
 
-    /// Gives the disk back.
+    /// Gives the disk back. What waits and isn't sealed is lost.
     pub fn into_disk(self) -> D
         ensures disk { result ≡ self.store.disk }
+        // H: any crash state stands for the set after some first accepted edits, all that were
+        // told among them.
         ensures outcomes { EachCrash D.Disk result (KeptFrom self.desk self.told) }
+        // H: where no call failed, a read gives what is sealed, with the batch on its way exactly
+        // where its gate was opened.
         ensures reads { D.honest result → self.store.failed ≡ false →
             StandsFor (D.bytes result) (readable_set self.store) }
+        // H: the same by the desk: where no call failed, a read gives what is settled, and what
+        // is drawn exactly once its gate was opened.
         ensures stands { D.honest result → (commits_of self).failed ≡ false →
             StandsFor (D.bytes result) (opened_set (commits_of self)) }
     {

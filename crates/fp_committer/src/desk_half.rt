@@ -50,8 +50,11 @@ impl DeskHalf {
         store: Store<D>,
         opening: Opening,
     ) -> Result<(DeskHalf, StoreHalf<D>), (AllocError, Store<D>, Opening)>
+        // The opening is this store's.
         requires opening { opening ≡ store.store }
+        // The store is as it was made or opened.
         requires fresh { IsFresh store store.store.start }
+        // `Ok`: the desk is over this opening, and nothing is accepted yet.
         ensures desk { IfOk result (λ r. r.0.desk ≡ record {
           store = opening;
           settled = [];
@@ -60,8 +63,11 @@ impl DeskHalf {
           stopped = false;
           last = [];
         }) }
+        // `Ok`: the store's half has this store, and nothing is drawn.
         ensures store { IfOk result (λ r. r.1 ≡ new_half store r.1.half) }
+        // `Ok`: they are halves of one committer, and agree on what is drawn and settled.
         ensures halves { IfOk result (λ r. AreHalves r.0 r.1 × Agree r.0 r.1) }
+        // `Err`: both come back.
         ensures given_back { IfErr result (λ e. (e.1 ≡ store) × (e.2 ≡ opening)) }
     {
         let desk = match Desk::new(alloc, opening) {
@@ -80,23 +86,30 @@ impl DeskHalf {
         &self.desk
     }
 
-    /// Puts an edit behind those that wait, where the set that they lead to admits it.
+    /// Takes an edit, behind those that wait, as `Desk::submit` does.
     pub fn submit(&mut self, edit: Edit) -> Result<Ticket, (SubmitFault, Edit)>
+        // As of `Desk::submit`.
         ensures accepted { OnOk result (IsAccepted self.old.desk self.new.desk (proposal_of edit)) }
+        // As of `Desk::submit`.
         ensures ticket { IfOk result (λ t. (t.store ≡ self.new.desk.store)
             × (t.edit ≡ proposal_of edit)) }
+        // As of `Desk::submit`.
         ensures revision { IfOk result (λ t. t.revision
             ≡ self.new.desk.store.start.revision + length (log self.new.desk)) }
+        // What the half lists stays.
         ensures half { self.new.half ≡ self.old.half }
+        // As of `Desk::submit`.
         ensures refused { IfErr result (λ e. Refuses self.old.desk (proposal_of edit) e.0) }
+        // `Err`: the edit comes back.
         ensures given_back { IfErr result (λ e. e.1 ≡ edit) }
+        // An `Err` changes nothing.
         ensures unchanged { OnErr result (self.new ≡ self.old) }
     {
         let _ = &self.half;
         self.desk.submit(edit)
     }
 
-    /// Takes no further edits. What waits goes on.
+    /// Takes no further edits. What waits goes on, and what the half lists stays.
     pub fn stop(&mut self)
         ensures { self.new ≡ record self.old { desk = record self.old.desk { stopped = true } } }
     {
@@ -107,15 +120,22 @@ impl DeskHalf {
     /// Draws the longest first part of what waits that makes a batch, where nothing is drawn, and
     /// answers how many edits it has.
     pub fn draw<D: Disk>(&mut self, store: &mut StoreHalf<D>) -> Result<Option<usize>, AllocError>
+        // They are the halves of one committer.
         requires { AreHalves self.old store.old }
+        // `Some`: as the desk draws, in both halves at once. `None` only where something is drawn
+        // or nothing waits.
         ensures drawn { IfOk result (λ o. MatchOption o
             ((self.old.desk.drawn ≢ []) ⊎ (self.old.desk.waiting ≡ []))
             (HaveDrawn self.old self.new store.old store.new)) }
+        // `None`: neither half has changed.
         ensures none { IfOk result (λ o. IfNone o
             ((self.new ≡ self.old) × (store.new ≡ store.old))) }
+        // `Err` only where nothing is drawn and something waits.
         ensures memory { OnErr result
             ((self.old.desk.drawn ≡ []) × (self.old.desk.waiting ≢ [])) }
+        // `Err`: neither half has changed.
         ensures unchanged { OnErr result ((self.new ≡ self.old) × (store.new ≡ store.old)) }
+        // They are halves of one committer still, and agree on what is drawn and settled.
         ensures halves { AreHalves self.new store.new × Agree self.new store.new }
     {
         self.half.agrees(&store.half);
@@ -129,15 +149,23 @@ impl DeskHalf {
         Ok(Some(count))
     }
 
-    /// Settles what is sealed, and answers the last revision that is settled.
+    /// Settles what is sealed, and answers the last revision that is settled. The store's half
+    /// has the receipt, so that another store's can't be given.
     pub fn settle<D: Disk>(&mut self, store: &mut StoreHalf<D>) -> Result<Option<u64>, AllocError>
+        // They are the halves of one committer.
         requires { AreHalves self.old store.old }
+        // `Some`: what was sealed is settled, all of it, in both halves at once. `None` only
+        // where no batch was sealed.
         ensures settled { IfOk result (λ o. MatchOption o (store.old.progress ≢ batch_sealed)
             (HaveSettled self.old self.new store.old store.new)) }
+        // `None`: neither half has changed.
         ensures none { IfOk result (λ o. IfNone o
             ((self.new ≡ self.old) × (store.new ≡ store.old))) }
+        // `Err` only where a batch was sealed.
         ensures memory { OnErr result (store.old.progress ≡ batch_sealed) }
+        // `Err`: neither half has changed.
         ensures unchanged { OnErr result ((self.new ≡ self.old) × (store.new ≡ store.old)) }
+        // They are halves of one committer still, and agree on what is drawn and settled.
         ensures halves { AreHalves self.new store.new × Agree self.new store.new }
     {
         self.half.agrees(&store.half);
@@ -167,6 +195,7 @@ impl DeskHalf {
 
     /// Gives the opening back, where no edit was accepted.
     pub fn into_opening(self) -> Opening
+        // No edit was accepted.
         requires { log self.desk ≡ [] }
         ensures { result ≡ self.desk.store }
     {

@@ -21,16 +21,28 @@ use fp_disk::Disk;
 use fp_group_commit::StoreFault;
 
 impl<D: Disk> StoreHalf<D> {
-    /// Seals what is drawn by the four calls of a batch, behind steps of a compaction where there is
-    /// no room for it yet. Where memory was wanting it is drawn still, and can be sealed later.
+    /// Seals what is drawn by the four calls of a batch, behind steps of a compaction where there
+    /// is no room for it yet. Where memory was wanting it is drawn still, and can be sealed
+    /// later.
     pub fn seal(&mut self) -> Result<(), CommitFault>
+        // A batch is drawn.
         requires drawn { self.old.progress ≡ batch_drawn }
+        // The store hasn't failed.
         requires well { self.old.store.failed ≡ false }
+        // H: any crash state at any moment keeps all that is settled.
         ensures kept { CallsOn D.Disk self.old self.new }
+        // `Ok`: what was drawn is sealed.
         ensures sealed { OnOk result (self.new.progress ≡ batch_sealed) }
+        // `Ok`: no call of the disk failed, and the calls were those of whole works: steps of a
+        // compaction, and batches (write, sync, write, sync).
         ensures well { OnOk result (GoesWell D.Disk self.old.store self.new.store) }
+        // `Memory`: it is drawn still.
         ensures later { IfErr result (λ f. f ≡ Memory → self.new.progress ≡ batch_drawn) }
+        // `StoreFailed` only where a call of the disk failed, or where no generation is left to
+        // make room for what is drawn, and H: no crash state has room for it. `Memory`: the store
+        // is well, and no call failed.
         ensures cause { IfErr result (HasCause D.Disk self.old self.new) }
+        // `Err`: the calls were those of whole works, and some first ones of one more.
         ensures called { OnErr result (BreaksOff D.Disk self.old.store self.new.store) }
     {
         self.make_room()?;
@@ -101,27 +113,46 @@ impl<D: Disk> StoreHalf<D> {
     /// Takes a step where a compaction runs, or begins one where less than a quarter of a slot is
     /// left for batches, or the slot is older than all that is written.
     pub fn go_on(&mut self) -> Result<(), CommitFault>
+        // Nothing is drawn.
         requires rest { self.old.progress ≡ nothing_drawn }
+        // The store hasn't failed.
         requires well { self.old.store.failed ≡ false }
+        // H: any crash state at any moment keeps all that is settled.
         ensures kept { CallsOn D.Disk self.old self.new }
+        // Nothing is drawn then either.
         ensures still { self.new.progress ≡ nothing_drawn }
+        // `Ok`: no call of the disk failed, and the calls were those of whole works, as of
+        // `seal`.
         ensures well { OnOk result (GoesWell D.Disk self.old.store self.new.store) }
+        // `StoreFailed` only where a call of the disk failed. `Memory`: the store is well, and no
+        // call failed.
         ensures cause { IfErr result (FailsBy D.Disk self.old.store self.new.store) }
+        // `Err`: the calls were those of whole works, and some first ones of one more.
         ensures called { OnErr result (BreaksOff D.Disk self.old.store self.new.store) }
     {
         let _ = &self.held;
         room::go_on(&mut self.store)
     }
 
-    /// Takes the steps of a compaction that runs, to its end.
+    /// Takes the steps of a compaction that runs, to its end. Where none runs it does nothing.
     pub fn finish(&mut self) -> Result<(), CommitFault>
+        // Nothing is drawn.
         requires rest { self.old.progress ≡ nothing_drawn }
+        // The store hasn't failed.
         requires well { self.old.store.failed ≡ false }
+        // H: any crash state at any moment keeps all that is settled.
         ensures kept { CallsOn D.Disk self.old self.new }
+        // Nothing is drawn then either.
         ensures still { self.new.progress ≡ nothing_drawn }
+        // `Ok`: no compaction runs.
         ensures none_runs { OnOk result (self.new.store.compaction.next ≡ Begin) }
+        // `Ok`: no call of the disk failed, and the calls were those of whole works, as of
+        // `seal`.
         ensures well { OnOk result (GoesWell D.Disk self.old.store self.new.store) }
+        // `StoreFailed` only where a call of the disk failed. `Memory`: the store is well, and no
+        // call failed.
         ensures cause { IfErr result (FailsBy D.Disk self.old.store self.new.store) }
+        // `Err`: the calls were those of whole works, and some first ones of one more.
         ensures called { OnErr result (BreaksOff D.Disk self.old.store self.new.store) }
     {
         let _ = &self.held;

@@ -72,8 +72,12 @@ impl<D: Disk> StoreHalf<D> {
     /// Shows what a crash leaves now: all that is settled, and perhaps what is drawn. Does nothing
     /// when it runs.
     pub fn rest(&self)
+        // All that was drawn is what is settled, and behind it what is drawn now.
         ensures whole { self.now.half.all ≡ self.now.half.settled ++ self.now.drawn }
+        // H: any crash state stands for the set after some first edits that were drawn, all that
+        // are settled among them.
         ensures exit { EachCrash D.Disk self.now.store.disk (KeptBy self.now) }
+        // With nothing drawn no batch is on its way, and what is sealed is what is settled.
         ensures idle { self.now.progress ≡ nothing_drawn → (self.now.store.phase ≡ Idle)
             × (self.now.drawn ≡ []) × (self.now.store.sealed ≡ self.now.half.settled) }
     {
@@ -96,10 +100,15 @@ impl<D: Disk> StoreHalf<D> {
     /// Gives the disk back.
     pub fn into_disk(self) -> D
         ensures disk { result ≡ self.store.disk }
+        // H: any crash state stands for the set after some first edits that were drawn, all that
+        // are settled among them.
         ensures outcomes { EachCrash D.Disk result (KeptBy self) }
+        // H: where no call failed, a read gives what is sealed, with the batch on its way exactly
+        // where its gate was opened.
         ensures reads { D.honest result → self.store.failed ≡ false →
             StandsFor (D.bytes result) (readable_set self.store) }
-        // Where no call of it failed: what is settled, and what is drawn once its gate was opened.
+        // H: the same by what was drawn: where no call failed, a read gives what is settled, and
+        // what is drawn exactly once its gate was opened.
         ensures stands { D.honest result → self.store.failed ≡ false →
             StandsFor (D.bytes result)
             (after_all self.store.store.start (read_edits (taken_by self) (way_by self))) }

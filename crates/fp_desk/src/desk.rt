@@ -51,7 +51,7 @@ impl Model for Ticket {
 }
 
 impl Ticket {
-    /// The revision that its edit makes.
+    /// The revision that its edit makes. `submit` alone makes a ticket, and it can't be copied.
     pub fn revision(&self) -> u64
         ensures { result ≡ self.now.revision }
     {
@@ -104,8 +104,10 @@ impl Model for Desk {
 }
 
 impl Desk {
-    /// Nothing waits yet.
+    /// A desk over the opening of a store, of which nothing waits yet. It copies the opening's
+    /// set once.
     pub fn new(alloc: Global, opening: Opening) -> Result<Desk, (AllocError, Opening)>
+        // `Ok`: nothing is accepted yet, in the store of the opening, and the desk isn't stopped.
         ensures made { IfOk result (λ d. d ≡ record {
           store = opening;
           settled = [];
@@ -114,6 +116,7 @@ impl Desk {
           stopped = false;
           last = [];
         }) }
+        // `Err`: the opening comes back.
         ensures given_back { IfErr result (λ e. e.1 ≡ opening) }
     {
         let Ok(head) = opening.set().try_copy() else {
@@ -134,15 +137,23 @@ impl Desk {
         })
     }
 
-    /// Puts an edit behind those that wait, where the set that they lead to admits it.
+    /// Takes an edit, behind those that wait. A ticket says which revision it makes.
     pub fn submit(&mut self, edit: Edit) -> Result<Ticket, (SubmitFault, Edit)>
+        // `Ok`: the desk isn't stopped, the head admits the edit, fewer than 1,024 aren't
+        // settled, and it stands behind those that wait.
         ensures accepted { OnOk result (IsAccepted self.old self.new (proposal_of edit)) }
+        // `Ok`: the ticket names this store and the edit, with what its editor expected.
         ensures ticket { IfOk result (λ t. (t.store ≡ self.new.store)
             × (t.edit ≡ proposal_of edit)) }
+        // `Ok`: its revision is that of the last accepted edit, which this one is.
         ensures revision { IfOk result (λ t.
             t.revision ≡ self.new.store.start.revision + length (log self.new)) }
+        // `Err`: the first of `Stopped`, the head's refusal, `QueueFull` at 1,024 edits that
+        // aren't settled; `Memory` only where none of these applies.
         ensures refused { IfErr result (λ e. Refuses self.old (proposal_of edit) e.0) }
+        // `Err`: the edit comes back.
         ensures given_back { IfErr result (λ e. e.1 ≡ edit) }
+        // An `Err` changes nothing.
         ensures unchanged { OnErr result (self.new ≡ self.old) }
     {
         if self.stopped {
@@ -188,7 +199,7 @@ impl Desk {
         self.waiting.len()
     }
 
-    /// Whether the edit would be drawn together with all that wait before it.
+    /// Whether the edit would be drawn together with all that wait before it, as one batch.
     pub fn joins(&self, edit: &Edit) -> bool
         ensures { IsTrue result ↔ FitsBehind (most_of self.now.store.start.limit)
             self.now.waiting (change_of edit.now) }
@@ -205,8 +216,13 @@ impl Desk {
 
     /// Draws the longest first part of what waits that makes a batch, where none is out.
     pub fn draw(&mut self) -> Result<Option<Draw>, AllocError>
+        // `Ok`: `None` only where a draw is out or nothing waits. Else the draw, under the
+        // revisions behind what is settled: the longest first part of what waits that makes a
+        // batch, of 1 to 64 edits within an eighth of a slot.
         ensures drawn { IfOk result (Draws self.old self.new) }
+        // `Err` only where nothing is drawn and something waits.
         ensures memory { OnErr result ((self.old.drawn ≡ []) × (self.old.waiting ≢ [])) }
+        // An `Err` changes nothing.
         ensures unchanged { OnErr result (self.new ≡ self.old) }
     {
         if !self.drawn.is_empty() || self.waiting.is_empty() {
@@ -220,19 +236,27 @@ impl Desk {
         Ok(Some(Draw::new(first, edits)))
     }
 
-    /// Spends a receipt for what is drawn.
+    /// Spends a receipt for what is drawn: from then on it is settled, and may be told.
     pub fn settle(&mut self, receipt: Receipt) -> Result<(), (SettleFault, Receipt)>
+        // The receipt is of the desk's store.
         requires { receipt.store ≡ self.old.store }
+        // `Ok`: the receipt's batch is what is drawn, change by change, under the next revisions.
         ensures drawn { OnOk result (IsDrawn self.old receipt) }
+        // `Ok`: all that was drawn stands behind what was settled, and nothing is drawn any more.
         ensures settled { OnOk result (self.new
             ≡ record self.old {
               settled = self.old.settled ++ self.old.drawn;
               drawn = [];
               last = self.old.drawn;
             }) }
+        // `Ok`: what is settled is all that the receipt names.
         ensures all { OnOk result (self.new.settled ≡ receipt.edits) }
+        // `Stranger` only where the receipt's batch isn't what is drawn, `Memory` only where it
+        // is.
         ensures refused { IfErr result (λ e. SettlesNot self.old receipt e.0) }
+        // `Err`: the receipt comes back.
         ensures given_back { IfErr result (λ e. e.1 ≡ receipt) }
+        // An `Err` changes nothing.
         ensures unchanged { OnErr result (self.new ≡ self.old) }
     {
         if self.drawn.is_empty()
@@ -252,10 +276,13 @@ impl Desk {
         Ok(())
     }
 
-    /// Tells whether the ticket's edit is settled.
+    /// Tells whether the ticket's edit is settled. It looks at the ticket's revision alone.
     pub fn ack(&self, ticket: &Ticket) -> Option<Told>
+        // `None` only where the ticket's revision is behind all that is settled.
         ensures waiting { IfNone result (settled_revision self.now < ticket.now.revision) }
+        // `Some` only where it isn't: the ticket's revision is settled.
         ensures settled { IfSome result (λ _. ticket.now.revision ≤ settled_revision self.now) }
+        // `Some`: what is told is all that is settled, in the desk's store.
         ensures told { IfSome result (λ t.
             (t.store ≡ self.now.store) × (t.edits ≡ self.now.settled)) }
     {
@@ -266,7 +293,7 @@ impl Desk {
         }
     }
 
-    /// The set that all accepted edits lead to.
+    /// The set that all accepted edits lead to, by which the next one is judged.
     pub fn head(&self) -> &FlagSet
         ensures { result.now ≡ head self.now }
     {
@@ -280,22 +307,24 @@ impl Desk {
         self.settled.revision()
     }
 
-    /// Tells all that is settled.
+    /// Tells all that is settled, as a front of the store's edits.
     pub fn told(&self) -> Told
         ensures { result ≡ settled_front self.now }
     {
         self.settled.tell()
     }
 
-    /// The edits of the batch that was settled last.
+    /// The edits of the batch that was settled last, none at first.
     pub fn last_batch(&self) -> &[Edit]
         ensures last { changes_of result.now ≡ self.now.last }
+        // What is settled ends with them.
         ensures ends { EndsWith self.now.settled (changes_of result.now) }
     {
         self.settled.last_batch()
     }
 
-    /// An equal set to the settled one, which shares the definitions.
+    /// An equal set to the settled one, which shares the definitions. It costs a walk over the
+    /// set.
     pub fn settled_copy(&self) -> Result<FlagSet, AllocError>
         ensures { IfOk result (λ copy. copy ≡ settled_set self.now) }
     {
@@ -314,6 +343,7 @@ impl Desk {
 
     /// Gives the opening back, where no edit was accepted.
     pub fn into_opening(self) -> Opening
+        // No edit was accepted.
         requires { log self ≡ [] }
         ensures { result ≡ self.store }
     {

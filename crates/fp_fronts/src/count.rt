@@ -24,7 +24,7 @@ impl Model for Count {
 }
 
 impl Count {
-    /// Nothing was counted yet.
+    /// Nothing was counted yet: 0.
     pub fn new() -> Count
         ensures { result ≡ 0 }
     {
@@ -33,7 +33,7 @@ impl Count {
         }
     }
 
-    /// CountsFailures one more.
+    /// Counts one more. What counts failures stands on it, since it can't overflow.
     pub fn increment(&mut self)
         ensures { self.new ≡ self.old + 1 }
     {

@@ -47,7 +47,7 @@ impl<E> Model for Front<E> {
 }
 
 impl<E> Growing<E> {
-    /// A new list, with a name that no other list has, and its empty beginning.
+    /// A new list, empty, with a name that no other list has, and its empty beginning.
     pub fn new() -> (Growing<E>, Front<E>)
         ensures { (result.0.log ≡ []) × (result.1.log ≡ []) × (result.1.name ≡ result.0.name) }
     {
@@ -61,8 +61,8 @@ impl<E> Growing<E> {
         )
     }
 
-    /// Puts the elements of `more` behind the list, and gives the whole list as a
-    /// beginning of what it will be.
+    /// Puts what `more` lists behind the list, as the marker `M` has it, and gives the whole list
+    /// as a front of its name. The name stays.
     pub fn lengthen<X, M: Lists<X, E>>(&mut self, more: &X) -> Front<E>
         ensures { (self.new.name ≡ self.old.name)
             × (self.new.log ≡ self.old.log ++ M.items more.now) × (result.name ≡ self.old.name)
@@ -74,8 +74,9 @@ impl<E> Growing<E> {
         }
     }
 
-    /// Shows that a front of this list begins it.
+    /// Shows that a front of this list begins it. Does nothing when it runs.
     pub fn confirm(&self, front: &Front<E>)
+        // The front has this list's name.
         requires { front.now.name ≡ self.now.name }
         ensures { IsPrefix front.now.log self.now.log }
     {
@@ -93,8 +94,10 @@ impl<E> Front<E> {
         }
     }
 
-    /// Shows that some list begins with both fronts, so that the shorter begins the longer.
+    /// Shows that some list begins with both fronts, so that the shorter begins the longer. Does
+    /// nothing when it runs.
     pub fn meets(&self, other: &Front<E>)
+        // Both have one name.
         requires { other.now.name ≡ self.now.name }
         ensures { (whole : List E) × IsPrefix self.now.log whole × IsPrefix other.now.log whole }
     {

@@ -24,9 +24,14 @@ use Rattle.fp_group_commit.specs.declared.phase.Phase.{Phase}
 -- its word where it did before
 pub record CallsDisk {D T E : Type 0} (disk : Ghosts D) (calls : List CallKind)
     (old new : StoreState D) (P : List ℕ → Type 0) (result : Result T E) : Type 0 where
+  -- These calls of the disk are made, or some first ones of them where the call fails.
   pub called : Makes calls (disk.calls old.disk) (disk.calls new.disk) result
+  -- H: any crash state at any moment stands for the sealed set or, once opening the gate has
+  -- begun, perhaps for that with the batch on its way.
   pub any_moment : AtAnyMoment disk old.disk new.disk P
+  -- H: so does any crash state after the call, in a failed store too.
   pub exit : EachCrash disk new.disk (Leaves new)
+  -- The disk is honest after it exactly if it was before.
   pub honest : SameHonesty disk old.disk new.disk
 
 abbrev pub SameStore : {D : Type 0} → StoreState D → StoreState D → Type 0
@@ -81,10 +86,17 @@ FailsBy faults old new fault.Stranger = ⊥
 -- before; either way nothing is sealed, and the room and a compaction stay
 pub record MovesOn {D T : Type 0} (faults : D → ℕ) (to : Phase) (old new : StoreState D)
     (result : Result T StoreFault) : Type 0 where
+  -- What is sealed and what is on its way stay.
   pub same : SameStore old new
+  -- `Ok`: the phase is the one that follows, and the device failed neither before nor in the
+  -- call.
   pub ok : OnOk result (MovesTo faults to old new)
+  -- `Err`: the phase is as before.
   pub phase : OnErr result (new.phase ≡ old.phase)
+  -- `Device`: it failed in this call, and phase and room are as before. `Failed`: it had failed
+  -- before, and nothing changed. There is no other fault.
   pub fault : IfErr result (FailsBy faults old new)
+  -- What a batch may take, what is left for batches, the other slot and a compaction stay.
   pub same_room : SameRoom old new
 
 -- why a batch wasn't staged
@@ -117,27 +129,45 @@ pub record PlansImage {D : Type 0} (old new : StoreState D) : Type 0 where
 -- it is the next generation, of the version of all that is written, and a slot's bytes, twice what a
 -- set may take, but for head, image and tail are room. At each other the slots and the room stay
 pub record Compacts {D : Type 0} (faults : D → ℕ) (old new : StoreState D) : Type 0 where
+  -- The step that follows is the next one.
   pub next : new.compaction.next ≡ next_step old.compaction.next old.compaction.left
+  -- What is left of the image falls by a part at a `Part`, and stays at each other step but the
+  -- first.
   pub left : old.compaction.next ≢ Begin
       → new.compaction.left ≡ next_left old.compaction.next old.compaction.left
+  -- The device hadn't failed before,
   pub well_before : old.failed ≡ false
+  -- hasn't failed now,
   pub well_now : new.failed ≡ false
+  -- and no call of the disk failed.
   pub no_failure : faults new.disk ≡ faults old.disk
+  -- What a batch may take stays.
   pub most : new.most ≡ old.most
+  -- At the first step the image of the sealed set is to be written behind a head, within what a
+  -- set may take, and the tail is empty.
   pub begun : old.compaction.next ≡ Begin → PlansImage old new
+  -- At each step between the first and the last head and image are as long as before,
   pub head_stays : old.compaction.next ≢ Begin → old.compaction.next ≢ SyncOpen
       → new.compaction.head ≡ old.compaction.head
+  -- and so is the tail, which batches alone lengthen.
   pub tail_stays : old.compaction.next ≢ Begin → old.compaction.next ≢ SyncOpen
       → new.compaction.tail ≡ old.compaction.tail
+  -- The generation is below 2^64.
   pub numbered : new.compaction.generation < 2 ^ 64
+  -- At each step but the last the other slot, the generation, the version and what its gate
+  -- counts as stay.
   pub slots_stay : old.compaction.next ≢ SyncOpen → (new.other ≡ old.other)
       × (new.compaction.generation ≡ old.compaction.generation)
       × (new.compaction.version ≡ old.compaction.version)
       × (new.may_open ≡ old.may_open)
+  -- At the last step the slots are turned: the generation is the next one, the version is that of
+  -- all that is written, and the other slot's gate counts as open.
   pub slots_turn : old.compaction.next ≡ SyncOpen → (new.other ≡ old.place.slot)
       × (new.compaction.generation ≡ old.compaction.generation + 1)
       × (new.compaction.version ≡ VERSION) × (new.may_open ≡ true)
+  -- At each step but the last what is left for batches stays.
   pub room_stays : old.compaction.next ≢ SyncOpen → new.room ≡ old.room
+  -- At the last step a slot's bytes, less those of head, image and tail, are left for batches.
   pub room_gained : old.compaction.next ≡ SyncOpen → new.room
       ≡ 2 * old.store.start.limit - (old.compaction.head + old.compaction.tail)
 

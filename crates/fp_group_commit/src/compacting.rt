@@ -46,17 +46,28 @@ fn catch_up(
 }
 
 impl<D: Disk> Store<D> {
-    /// Takes the next step of a compaction, with one call of the disk at most, and answers the one
-    /// behind it. It takes memory only as one begins, for the image and for what the last batch
-    /// adds to the set.
+    /// Takes the next of a compaction's eight steps, with one call of the disk at most, and
+    /// answers the one behind it. It takes memory only as one begins, for the image and for what
+    /// the last batch adds to the set.
     pub fn compact_step(&mut self) -> Result<Step, StoreFault>
+        // A step may be taken, as `may_compact` says.
         requires { MayCompact self.old }
+        // What is sealed and what is on its way stay.
         ensures same { SameStore self.old self.new }
+        // The phase stays.
         ensures phase { self.new.phase ≡ self.old.phase }
+        // Opening the gate has begun exactly where it had.
         ensures begun { self.new.begun ≡ self.old.begun }
+        // `Ok`: the step was taken.
         ensures ok { OnOk result (Compacts D.faults self.old self.new) }
+        // `Ok`: the answer is the step that follows.
         ensures next { IfOk result (λ next. next ≡ self.new.compaction.next) }
+        // `Device`: it failed in this call, and phase, room and compaction are as before.
+        // `Failed`, where it had failed before, and `Memory`, only at the first step: nothing
+        // changed.
         ensures fault { IfErr result (StopsBy D.faults self.old self.new) }
+        // Its calls of the disk are those of the step taken: none at the first, and at `Close`
+        // where the gate counts as closed; else a write or a sync.
         ensures disk { CallsDisk D.Disk (calls_of self.old.compaction.next self.old.may_open)
             self.old self.new (Leaves self.old) result }
     {

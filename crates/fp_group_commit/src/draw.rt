@@ -49,7 +49,8 @@ impl Lists<Draw, Applied> for InDraw {
 }
 
 impl Draw {
-    /// These edits, the first of which makes the revision `first`.
+    /// These edits, the first of which makes the revision `first`, and each other the one behind.
+    /// Anybody may make a draw, since `stage` looks whether it goes on.
     pub fn new(first: u64, edits: Vec<Edit>) -> Draw
         ensures { result ≡ record { first = first; changes = changes_of edits.items } }
     {
@@ -78,8 +79,9 @@ impl Draw {
     }
 }
 
-/// How many bytes the edits take in a batch's body, where they aren't many.
+/// How many bytes the edits take in a batch's body.
 pub fn spelled_sum(edits: &[Edit]) -> u64
+    // 64 edits at most.
     requires { length edits.now ≤ MOST_EDITS }
     ensures { result ≡ batch_len (record { first = 0; changes = changes_of edits.now }) }
 {

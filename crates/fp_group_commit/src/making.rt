@@ -50,47 +50,72 @@ fn refusal_of_size<D: Disk>(disk: &mut D) -> CreateFault
 }
 
 impl<D: Disk> Store<D> {
-    /// Makes an empty disk one that keeps no flags, at revision 0, in slots of this size.
+    /// Makes an empty disk one that keeps no flags, at revision 0, in slots of this size. A disk
+    /// that isn't empty is left as it is.
     pub fn create(
         alloc: Global,
         mut disk: D,
         size: u64,
     ) -> Result<(Store<D>, Opening), (CreateFault, D)>
+        // `Ok`: a slot may have this size.
         ensures allowed { IfOk result (λ _. IsSlotSize size) }
+        // H: at `Ok` the disk had no bytes.
         ensures empty { D.honest disk → IsOk result → D.bytes disk ≡ [] }
+        // `Ok`: the store begins with no flags at revision 0. Nothing is sealed since or on its
+        // way, no call has failed, no compaction runs; a batch may take what its slot says, and
+        // what lies behind the closed gate is left.
         ensures fresh { IfOk result (λ r. IsFresh r.0 (new_set size)) }
+        // `Ok`: the opening names this store.
         ensures opening { IfOk result (λ r. r.1 ≡ r.0.store) }
+        // `Ok`: both slots have this size, and the first one rules.
         ensures slots { IfOk result (λ r. (r.0.place.slot ≡ first_slot size)
             × (r.0.other ≡ second_slot size)) }
+        // `Ok`: the closed gate is where a new disk's first batch goes.
         ensures gate { IfOk result (λ r. r.0.place.gate ≡ FIRST_GATE) }
+        // `Ok`: the slot is of the version of all that is written.
         ensures version { IfOk result (λ r. r.0.compaction.version ≡ VERSION) }
+        // `Ok`: the other slot's gate counts as closed, so that the first compaction makes no
+        // call to close it.
         ensures other_gate { IfOk result (λ r. r.0.may_open ≡ false) }
+        // H: at `Ok` the bytes are those of a new disk.
         ensures made { D.honest disk → IfOk result (λ r. IsNewDisk size (D.bytes r.0.disk)) }
+        // H: at `Ok` every crash state stands for no flags at revision 0.
         ensures sure { D.honest disk →
             IfOk result (λ r. IsDurable (D.unsynced r.0.disk) (new_set size)) }
 
+        // H: at `NotEmpty` the disk had bytes.
         ensures not_empty { D.honest disk →
             IfErr result (λ e. e.0 ≡ NotEmpty → D.bytes disk ≢ []) }
+        // H: at `BadSize` the disk had none.
         ensures bad_size { D.honest disk → IfErr result (λ e. e.0 ≡ BadSize → D.bytes disk ≡ []) }
+        // `BadSize`: a slot can't have this size.
         ensures no_size { IfErr result (λ e. e.0 ≡ BadSize → IsSlotSize size → ⊥) }
+        // `Ok`: no call of the disk failed.
         ensures no_failure { IfOk result (λ r. D.faults r.0.disk ≡ D.faults disk) }
+        // `Device`: a call of the disk failed.
         ensures cause { IfErr result (λ e. e.0 ≡ Device → D.faults disk < D.faults e.1) }
+        // Any other fault: no call of the disk failed.
         ensures unfailed { IfErr result (λ e. e.0 ≢ Device → D.faults e.1 ≡ D.faults disk) }
-        // Memory is taken only for a disk of a size that may be.
+        // `Memory` only where a slot may have this size.
         ensures memory { IfErr result (λ e. e.0 ≡ Memory → IsSlotSize size) }
 
-        // Where it holds bytes it stays, whatever failed, and else where the device didn't fail.
+        // H: at an `Err`, but for `Device` over an empty disk: what is read and pending stays,
+        // and a crash at any moment leaves what one could leave before.
         ensures kept { D.honest disk → IfErr result (λ e. (D.bytes disk ≢ []) ⊎ (e.0 ≢ Device)
             → IsUntouched D.Disk disk e.1) }
 
-        // A crash at any moment leaves what opening calls no disk, or one that stands for no flags.
+        // H: of an empty disk, all of it synced, any crash state at any moment is no disk yet, or
+        // one of no flags.
         ensures any_moment { D.honest disk → D.unsynced disk ≡ all_synced [] → MatchResult result
             (λ r. LeavesOnly D.moment D.crash_states_since disk r.0.disk
             (IsNewSetOrNone size))
             (λ e. LeavesOnly D.moment D.crash_states_since disk e.1 (IsNewSetOrNone size)) }
+        // `Ok`: ten calls of the disk: length; write, sync; write, write, sync; write, sync;
+        // write, sync. `Err`: some first ones of them.
         ensures called { MatchResult result
             (λ r. D.calls r.0.disk ≡ D.calls disk ++ Length ∷ format_calls)
             (λ e. MakesSome (Length ∷ format_calls) (D.calls disk) (D.calls e.1)) }
+        // Any fault but `Device`: the disk's length was asked for, and nothing else.
         ensures untouched { IfErr result (λ e. (e.0 ≡ Device)
             ⊎ (D.calls e.1 ≡ D.calls disk ++ Length ∷ [])) }
         ensures honest { MatchResult result (λ r. SameHonesty D.Disk disk r.0.disk)
@@ -112,34 +137,53 @@ impl<D: Disk> Store<D> {
 
     /// Goes on from what a disk stands for. It syncs before it reads, and writes nothing.
     pub fn open(alloc: Global, disk: D) -> Result<(Store<D>, Opening), (OpenFault, D)>
+        // H: at `Ok` the bytes stand for the set of the opening.
         ensures stands { D.honest disk →
             IfOk result (λ r. StandsFor (D.bytes disk) r.0.store.start) }
-        // What a batch may take and what is left are those of the disk's slot, behind what it holds.
+        // H: at `Ok` the store goes on in the slot that rules, at the closed gate behind what
+        // stands there: so what a batch may take and what is left are that slot's.
         ensures place { D.honest disk → IfOk result (λ r.
             StandsAt (D.bytes disk) r.0.store.start r.0.place) }
+        // H: at `Ok` the slots, the version and the generation are the disk's.
         ensures slots { D.honest disk → IfOk result (λ r. HasSlots (D.bytes disk)
             r.0.place.slot r.0.other r.0.compaction.version r.0.compaction.generation) }
+        // H: at `Ok` the bytes stand for no other set.
         ensures only { D.honest disk → IfOk result (λ r. (other : State) →
             StandsFor (D.bytes disk) other → other ≡ r.0.store.start) }
+        // `Ok`: the store begins with that set. Nothing is sealed since or on its way, no call
+        // has failed, no compaction runs; a batch may take what its slot says, and what lies
+        // behind the closed gate is left.
         ensures fresh { IfOk result (λ r. IsFresh r.0 r.0.store.start) }
+        // `Ok`: the opening names this store.
         ensures opening { IfOk result (λ r. r.1 ≡ r.0.store) }
+        // H: at `Ok` the other slot's gate counts as open exactly where it is. Only then the
+        // first compaction's `Close` writes.
         ensures other_gate { D.honest disk → IfOk result (λ r. IsTrue r.0.may_open
             ↔ (slice_index (D.bytes disk) r.0.other.start ≡ OPEN)) }
 
-        // Bytes that no sync made sure of are none to open: each outcome stands for the set now.
+        // H: at `Ok` every crash state stands for the set now.
         ensures sure { D.honest disk →
             IfOk result (λ r. IsDurable (D.unsynced r.0.disk) r.0.store.start) }
 
+        // H: a fault of the bytes is the first one that they have, in the order of the layout.
         ensures fault { D.honest disk → IfErr result (λ e. RefusesBytes (D.bytes disk) e.0) }
+        // H: bytes that stand for a set are refused with `Device` or `Memory` alone.
         ensures refused { D.honest disk → IfErr result (λ e. IsUnlessWanting (D.bytes disk) e.0) }
+        // `Ok`: no call of the disk failed.
         ensures no_failure { IfOk result (λ r. D.faults r.0.disk ≡ D.faults disk) }
+        // `Device`: a call of the disk failed.
         ensures cause { IfErr result (λ e. e.0 ≡ opening.Device → D.faults disk < D.faults e.1) }
+        // `Memory`: no call of the disk failed.
         ensures memory { IfErr result (λ e. e.0 ≡ opening.Memory → D.faults e.1 ≡ D.faults disk) }
+        // `Ok`: the calls of the disk are a sync, the length, and behind them reads alone. `Err`:
+        // some first ones of these.
         ensures called { MatchResult result
             (λ r. ThenReads (Sync ∷ Length ∷ []) (D.calls disk) (D.calls r.0.disk))
             (λ e. ThenSomeReads (Sync ∷ Length ∷ []) (D.calls disk) (D.calls e.1)) }
+        // H: the bytes stay.
         ensures same { D.honest disk → MatchResult result
             (λ r. D.bytes r.0.disk ≡ D.bytes disk) (λ e. D.bytes e.1 ≡ D.bytes disk) }
+        // H: any crash state at any moment is one from before.
         ensures any_moment { D.honest disk → MatchResult result
             (λ r. LeavesOnly D.moment D.crash_states_since disk r.0.disk
             (IsOutcome (D.unsynced disk)))

@@ -36,16 +36,17 @@ impl Opening {
         Opening { set, part }
     }
 
-    /// The set.
+    /// The set that the store began with.
     pub fn set(&self) -> &FlagSet
         ensures { result.now ≡ self.now.start }
     {
         &self.set
     }
 
-    /// Its revision.
+    /// The revision of that set.
     pub fn revision(&self) -> u64
         ensures revision { result ≡ self.now.start.revision }
+        // It is below 2^63.
         ensures bounded { result < 2 ^ 63 }
     {
         self.set.revision()

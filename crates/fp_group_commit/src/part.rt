@@ -135,8 +135,10 @@ impl Part {
         }
     }
 
-    /// Shows that some list begins with both, so that the shorter begins the longer.
+    /// Shows that some list begins with both, so that the shorter begins the longer. Does nothing
+    /// when it runs.
     pub fn meets(&self, other: &Part)
+        // Both are of one store.
         requires { other.now.store ≡ self.now.store }
         ensures { (whole : List Change) × IsPrefix self.now.edits whole
             × IsPrefix other.now.edits whole }

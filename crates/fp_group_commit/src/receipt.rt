@@ -31,7 +31,7 @@ impl Model for Receipt {
 }
 
 impl Receipt {
-    /// The batch.
+    /// The batch that was sealed last. `sync_gate` alone makes a receipt, one a batch.
     pub fn batch(&self) -> &Draw
         ensures { result.now ≡ self.now.batch }
     {
@@ -39,7 +39,7 @@ impl Receipt {
         &self.draw
     }
 
-    /// The last revision that the store kept.
+    /// The last revision that the store had kept as it sealed this batch.
     pub fn revision(&self) -> u64
         ensures { result
             ≡ front_revision (record { store = self.now.store; edits = self.now.edits }) }
@@ -48,7 +48,7 @@ impl Receipt {
         self.draw.first - 1 + self.draw.edits.len() as u64
     }
 
-    /// Spends it, and tells nobody.
+    /// Spends it, and tells nobody. For who ends a store with a batch that nobody settles.
     pub fn forgo(self) {
         let Receipt { draw: _, part: _ } = self;
     }

@@ -73,7 +73,8 @@ impl Told {
         self.revision
     }
 
-    /// The beginning of the store's sealed edits that it tells of.
+    /// The beginning of the store's sealed edits that it tells of. It has no bytes, and of two
+    /// one begins the other (`meets`).
     pub fn part(&self) -> &Part
         ensures { result.now ≡ self.now }
     {
@@ -82,9 +83,11 @@ impl Told {
 }
 
 impl Settled {
-    /// Nothing is settled yet.
+    /// Spends an opening for the right to tell what is settled, and gives its set.
     pub fn of(alloc: Global, opening: Opening) -> (FlagSet, Settled)
+        // The set is the one that the store began with.
         ensures set { result.0 ≡ opening.start }
+        // Nothing of the opening's store is settled yet.
         ensures settled { (result.1.store ≡ opening) × (result.1.edits ≡ [])
             × (result.1.last ≡ []) }
     {
@@ -99,7 +102,9 @@ impl Settled {
 
     /// Gives back the opening that it came from, where nothing was settled.
     pub fn into_opening(self, set: FlagSet) -> Opening
+        // Nothing was settled.
         requires nothing { self.edits ≡ [] }
+        // This is the set that the opening had.
         requires set { set ≡ self.store.start }
         ensures { result ≡ self.store }
     {
@@ -114,13 +119,20 @@ impl Settled {
         self.revision
     }
 
-    /// Spends a receipt for the batch that comes next, and keeps its edits.
+    /// Spends a receipt for the batch that comes next: its edits are settled, and are those that
+    /// `last_batch` lends.
     pub fn advance(&mut self, receipt: Receipt)
+        // The receipt is of this store.
         requires store { receipt.store ≡ self.old.store }
+        // The receipt's batch begins with the revision behind what is settled.
         requires next { receipt.batch.first ≡ front_revision (front_of self.old) + 1 }
+        // It is the same store.
         ensures store { self.new.store ≡ self.old.store }
+        // The batch stands behind what was settled.
         ensures edits { self.new.edits ≡ self.old.edits ++ receipt.batch.changes }
+        // What is settled is all that the receipt names.
         ensures all { self.new.edits ≡ receipt.edits }
+        // The batch is the one that came last.
         ensures last { self.new.last ≡ receipt.batch.changes }
     {
         let Receipt { draw, part } = receipt;
@@ -130,16 +142,17 @@ impl Settled {
         self.last = draw.edits;
     }
 
-    /// The edits of the batch that came last.
+    /// The edits of the batch that came last, none at first.
     pub fn last_batch(&self) -> &[Edit]
         ensures last { changes_of result.now ≡ self.now.last }
+        // What is settled ends with them.
         ensures ends { EndsWith self.now.edits (changes_of result.now) }
     {
         let _ = &self.part;
         &self.last
     }
 
-    /// Tells what is settled.
+    /// Tells what is settled, with its last revision.
     pub fn tell(&self) -> Told
         ensures { result ≡ front_of self.now }
     {

@@ -116,12 +116,15 @@ impl<D: Disk> Store<D> {
         (store, Opening::new(set, part))
     }
 
-    /// How far the batch on its way is, so which call comes next.
-    /// A call that the device refuses leaves it.
+    /// How far the batch on its way is, so which call comes next. A call that the device refuses
+    /// leaves it.
     pub fn phase(&self) -> Phase
         ensures phase { result ≡ self.now.phase }
-        // Where no call of the device failed, opening the gate has begun exactly where it is open.
+        // Where no call of the device failed, opening the gate has begun exactly where the phase
+        // is `GateOpened`.
         ensures begun { self.now.failed ≡ false → self.now.begun ≡ is_opened result }
+        // H: every crash state stands for the sealed set or, once opening the gate has begun,
+        // perhaps for that with the batch on its way.
         ensures outcomes { EachCrash D.Disk self.now.disk (Leaves self.now) }
     {
         let _ = phase(&self.slots);
@@ -144,13 +147,17 @@ impl<D: Disk> Store<D> {
         matches!(self.slots.journal().phase(), JournalPhase::Failed)
     }
 
-    /// Whether the draw is within the limits of a batch, fits beside a compaction, where one runs, and
-    /// holds no set of changes where the slot that rules is of the first version.
+    /// Whether the draw can be staged now: it is within the limits of a batch, fits beside a
+    /// compaction, where one runs, and holds no set of changes where the slot that rules is of
+    /// the first version.
     pub fn has_room(&self, draw: &Draw) -> bool
+        // True exactly where that is so: 1 to 64 edits, a body as short as the slot takes, and
+        // room for it with its length and gates; where a compaction runs its tail isn't written
+        // yet, and has room for it too.
         ensures room { IsTrue result ↔ HasRoom self.now draw.now }
 
-        // Where no compaction runs and the slot that rules has none,
-        // nor has whatever a crash leaves, in the same generation.
+        // H: where nothing is on its way, no compaction runs and the slot has no room for the
+        // draw, by its bytes or by its version, nor has any crash state, in the same generation.
         ensures full { IsAtRest self.now → self.now.compaction.next ≡ Begin
             → HasNoRoom self.now draw.now
             → EachCrash D.Disk self.now.disk
@@ -165,8 +172,8 @@ impl<D: Disk> Store<D> {
         has_room(&self.slots, draw)
     }
 
-    /// Whether a step of a compaction may be taken: where none runs there is a generation more, and
-    /// no batch is on its way where the tail is next.
+    /// Whether a step of a compaction may be taken: where none runs there is a generation more,
+    /// and no batch is on its way where the tail is next.
     pub fn may_compact(&self) -> bool
         ensures { IsTrue result ↔ MayCompact self.now }
     {
@@ -178,10 +185,11 @@ impl<D: Disk> Store<D> {
         }
     }
 
-    /// The version of the slot that rules: 1 or 2. In one of version 1 no set of changes has a place; a
-    /// compaction leads to one of version 2.
+    /// The version of the slot that rules, as opening found it, until a compaction's last step
+    /// makes it 2. In one of version 1 no set of changes has a place.
     pub fn version(&self) -> u8
         ensures version { result ≡ self.now.compaction.version }
+        // It is 1 or 2.
         ensures known { IsVersion result }
     {
         let _ = &self.set;
@@ -196,7 +204,7 @@ impl<D: Disk> Store<D> {
         self.slots.generation()
     }
 
-    /// How many bytes are left for batches.
+    /// How many bytes are left for batches, with their gates and lengths.
     pub fn room(&self) -> u64
         ensures { result ≡ self.now.room }
     {
@@ -204,7 +212,7 @@ impl<D: Disk> Store<D> {
         self.slots.journal().room()
     }
 
-    /// Whether less than a quarter of a slot is left for batches.
+    /// Whether less than a quarter of a slot is left for batches, so that a compaction is due.
     pub fn is_short(&self) -> bool
         ensures { IsTrue result ↔ (self.now.room < self.now.store.start.limit / 2) }
     {
@@ -220,10 +228,14 @@ impl<D: Disk> Store<D> {
         self.set.revision() + self.ahead.len() as u64
     }
 
-    /// Gives the disk back.
+    /// Gives the disk back, in whatever phase.
     pub fn into_disk(self) -> D
         ensures disk { result ≡ self.disk }
+        // H: every crash state stands for the sealed set or, once opening the gate has begun,
+        // perhaps for that with the batch on its way.
         ensures outcomes { EachCrash D.Disk result (Leaves self) }
+        // H: where no call of the device failed, a read gives what is sealed, with the batch on
+        // its way exactly where its gate was opened.
         ensures reads { D.honest result → self.failed ≡ false →
             StandsFor (D.bytes result) (readable_set self) }
     {
@@ -243,16 +255,20 @@ impl<D: Disk> Store<D> {
         slots.into_disk()
     }
 
-    /// Shows that what a receipt tells of begins what the store keeps.
+    /// Shows that what a receipt tells of begins what the store keeps. Does nothing when it runs,
+    /// and says so of a failed store too.
     pub fn confirm(&self, receipt: &Receipt)
+        // The receipt is of this store.
         requires { receipt.now.store ≡ self.now.store }
         ensures { IsPrefix receipt.now.edits self.now.sealed }
     {
         self.sealed.confirm(receipt.part.front())
     }
 
-    /// Shows that what was told begins what the store keeps.
+    /// Shows that what was told begins what the store keeps. Does nothing when it runs, and says
+    /// so of a failed store too.
     pub fn confirm_told(&self, told: &Told)
+        // The `Told` is of this store.
         requires { told.now.store ≡ self.now.store }
         ensures { IsPrefix told.now.edits self.now.sealed }
     {

@@ -17,9 +17,17 @@ IsResting h = (h.progress ≡ nothing_drawn) × (h.store.failed ≡ false)
 -- failed, or where there is no room for what is drawn and no generation to make it
 pub record Flushes {D : Type 0} (disk : Ghosts D) (first last : StoreHalfState D)
     (ended : Result (Unit {0}) Broken) : Type 0 where
+  -- The half went on by a course: batches, settlements and steps of compactions between them, of
+  -- which each moment keeps all that was settled by then.
   pub course : Course disk first last
+  -- H: any crash state at any moment stands for the set after some first edits that were drawn,
+  -- among them all that were settled as it began.
   pub any_moment : AtAnyMoment disk first.store.disk last.store.disk (KeptThrough first last)
+  -- Where it ended, nothing is drawn and no call of the disk has failed.
   pub rest : OnOk ended (IsResting last)
+  -- Where it ended, no call of the disk failed.
   pub no_failure : OnOk ended (disk.faults last.store.disk ≡ disk.faults first.store.disk)
+  -- It broke off only where a call of the disk failed, or where no generation is left to make
+  -- room for what is drawn, and H: no crash state has room for it.
   pub cause : OnErr ended ((disk.faults first.store.disk < disk.faults last.store.disk)
       ⊎ LacksRoom disk last)

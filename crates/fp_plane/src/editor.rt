@@ -44,8 +44,8 @@ pub enum EditorEnd {
 /// Answers each line of an editor, before the next one is looked at, and each edit once it is
 /// sealed, settled and shown; none of them where the first line is an HTTP request's.
 ///
-/// With the end, or the fault, comes the most that was told: no revision that it wrote is greater.
-/// Want of memory ends it where a line comes in; of an edit that was taken it always tells.
+/// With the end, or the fault, comes the most that was told. Want of memory ends it where a line
+/// comes in; of an edit that was taken it always tells.
 pub fn editor_loop<K, D, R, I, O>(
     plane: &SealingPlane<K, D, R>,
     alloc: Global,
@@ -58,22 +58,26 @@ where
     R: Wait + Clock + Log + Drop,
     I: Read,
     O: Write,
-    // One line for each line read that gets one, in order, and the most that was told; or else the
-    // first line is an HTTP request's.
+    // `Served`: the first line is no HTTP request's, and there is one line for each line read
+    // that gets one, in order. What comes back is of the plane's store, and no revision that was
+    // written is greater. `HttpRequest`: the first line is one, and nothing was written.
     ensures served { IfOk result (λ end. IfSome (I.remaining r.old.inner) (λ input.
         Ends K.store end input (O.contents w.old.inner) (O.contents w.new.inner))) }
 
-    // However it ends, such a request gets no byte.
+    // Where the first line is an HTTP request's nothing is written, however the call ends.
     ensures silent { IfSome (I.remaining r.old.inner)
         (λ input. IsHttpRequest (first_line input) → w.new ≡ w.old) }
+    // `HttpRequest`: nothing was written.
     ensures untouched { IfOk result (λ end. end ≡ HttpRequest → w.new ≡ w.old) }
 
-    // The same of some first lines where the writer didn't fail.
+    // `Err`, unless the writer failed: the same of some first lines that get one.
     ensures broken { IfErr result (λ e. w.new.failures ≡ w.old.failures →
         IfSome (I.remaining r.old.inner) (λ input.
         IsServedFirst K.store e.1 (asked_by_input input)
         (O.contents w.old.inner) (O.contents w.new.inner))) }
+    // `Err`: what comes back is of the plane's store.
     ensures ours { IfErr result (λ e. IfSome e.1 (λ t. t.store ≡ K.store)) }
+    // `Device` exactly where a failure of either stream was counted.
     ensures device { CountsFailures (r.old.failures + w.old.failures)
         (r.new.failures + w.new.failures) (result_map_both (λ t. t) (λ e. e.0) result) }
 {
@@ -226,7 +230,11 @@ where
     K: Naming,
     D: Disk + Drop,
     R: Wait + Clock + Log + Drop,
+    // What became of the edit is of that edit: kept, by its ticket; not taken, by the refusal
+    // that a hall made of it; or not known to be kept, by its ticket, which a hall gave up.
     ensures own { IsOutcomeOf (proposal_of edit) result }
+    // Where it is kept, what is told is of the plane's store and has at least its ticket's
+    // revision.
     ensures ours { IsToldBy K.store result }
 {
     let ticket = match plane.submit(edit) {
@@ -241,6 +249,7 @@ where
 
 // The answer to an edit of which this became, and what was told.
 fn answer_of(outcome: Outcome) -> (Answer, Option<Told>)
+    // Its ticket's revision, why it was refused, or `store-failed`.
     ensures answer { answer_of_code result.0 ≡ answer_to_outcome outcome }
     ensures told { result.1 ≡ told_by outcome }
 {

@@ -47,16 +47,21 @@ pub(crate) enum Lull {
     Over,
 }
 
-/// Seals what is handed in and no editor seals itself, batch after batch, settles and shows it, and
-/// tells all who wait, until the plane is to stop and nothing waits, or sealing broke off: its own or
-/// an editor's. Compactions and a failure are told to who asked for it, once those who wait for the
-/// batch were told.
+/// Seals what is handed in and no editor seals itself, batch after batch, settles and shows it,
+/// and tells all who wait, until the plane is to stop and nothing waits, or sealing broke off:
+/// its own or an editor's. Then it gives the half back.
+///
+/// Want of memory is tried again. Compactions and a failure are told to who asked for it, once
+/// those who wait for the batch were told.
 pub fn flusher<K, D, R>(plane: &SealingPlane<K, D, R>, began: Front<OwnHalf<D>>) -> Flushed<D>
 where
     K: Naming,
     D: Disk + Drop,
     R: Wait + Clock + Log + Drop,
+    // The front has the name that `K` gives to the plane's beginning.
     requires { began.name ≡ K.beginning }
+    // From the half that the front lists to the one that comes back, whoever sealed: one record,
+    // `Flushes`.
     ensures { (first : StoreHalfState D) → began.log ≡ first ∷ [] →
         Flushes D.Disk first result.half result.ended }
 {
@@ -228,8 +233,10 @@ impl<K: Naming, R: Wait + Clock + Drop> Plane<K, R> {
     fn draw<D: Disk>(&self, half: &mut StoreHalf<D>) -> bool
         requires ours { IsStoreOf K.store K.desk_lists K.store_lists half.old }
         requires none { half.old.progress ≡ nothing_drawn }
+        // `true`: a batch is drawn, and a crash keeps what is settled.
         ensures drawn { result ≡ true → (half.new.progress ≡ batch_drawn)
             × ListsOn D.Disk half.old half.new }
+        // `false`: nothing changed.
         ensures none { result ≡ false → half.new ≡ half.old }
     {
         let shared = &self.shared;
@@ -261,7 +268,9 @@ impl<K: Naming, R: Wait + Clock + Drop> Plane<K, R> {
     fn settle<D: Disk>(&self, half: &mut StoreHalf<D>) -> usize
         requires ours { IsStoreOf K.store K.desk_lists K.store_lists half.old }
         requires sealed { half.old.progress ≡ batch_sealed }
+        // What was sealed is settled, and a crash keeps it from then on.
         ensures settled { ListsOn D.Disk half.old half.new }
+        // Nothing is drawn any more.
         ensures none { half.new.progress ≡ nothing_drawn }
     {
         let shared = &self.shared;

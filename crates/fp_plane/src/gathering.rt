@@ -1,4 +1,12 @@
 //! How a flusher lets those whom it has just told come back before it draws again.
+//!
+//! Who was just told comes back with the next edit a moment after a flusher would draw: so four
+//! editors would be two groups of two, and each batch have half of them. Behind a batch of four
+//! edits at most the flusher lets them come back: it looks under the lock and yields, until as
+//! many edits wait as were told and waited meanwhile, for at most as long as sealing that batch
+//! took and at most 1,000 looks. Where somebody doesn't come, the next draw waits for nobody,
+//! then the next two, and so on up to 64. Behind a larger batch nobody is waited for, nor where
+//! one editor is alone.
 
 ghost use Rattle.std.specs.Prelude.{◌≡◌, ◌⊎◌, ◌<◌, ◌≤◌, ◌+◌, ◌-◌, length, true, false, MatchBool};
 ghost use Rattle.fp_plane.specs.declared.gathering.TheConstants.{MOST_AWAITED};
@@ -50,7 +58,7 @@ impl Sealing {
         }
     }
 
-    /// How many edits the store has now behind that revision.
+    /// How many edits more the store has now than behind that revision.
     pub fn edits<D: Disk>(&self, store: &Store<D>) -> usize
         ensures { result ≡ (store.now.store.start.revision + length store.now.sealed)
             - self.now.behind }
@@ -83,13 +91,19 @@ impl Gathering {
     /// So many were told while so many others waited, and to seal their batch took so long. Who is
     /// alone has nobody to wait for, and a large batch is worth no wait.
     pub fn note_told(&mut self, told: usize, waiting: usize, taken: Duration)
+        // All who were told and all who waited meanwhile are waited for, where both are four at
+        // most and together more than one,
         ensures few { told ≤ MOST_AWAITED → waiting ≤ MOST_AWAITED → 1 < told + waiting →
             self.new.wanted ≡ told + waiting }
+        // nobody behind a batch of more than four edits,
         ensures large { MOST_AWAITED < told → self.new.wanted ≡ 0 }
+        // nor where more than four waited already,
         ensures busy { MOST_AWAITED < waiting → self.new.wanted ≡ 0 }
+        // nor where one editor is alone.
         ensures alone { told + waiting ≤ 1 → self.new.wanted ≡ 0 }
         ensures by_itself { MatchBool self.new.alone ((told ≤ 1) × (waiting ≡ 0))
             ((1 < told) ⊎ (0 < waiting)) }
+        // At most as long as sealing the batch took.
         ensures most { self.new.most ≡ taken }
         ensures rest { self.new.skipped ≡ self.old.skipped }
     {
@@ -114,6 +128,7 @@ impl Gathering {
 
     /// For how many edits is waited before this draw.
     pub fn wanted(&mut self) -> usize
+        // Nobody, for some draws behind a wait in vain.
         ensures skipped { 0 < self.old.skipped → result ≡ 0 }
         ensures wanted { self.old.skipped ≡ 0 → result ≡ self.old.wanted }
     {
@@ -126,7 +141,9 @@ impl Gathering {
 
     /// Notes whether they came. Where they didn't, the next draws wait for nobody.
     pub fn note(&mut self, came: bool)
+        // Where they came, no draws are skipped for it.
         ensures came { came ≡ true → self.new.skipped ≡ self.old.skipped }
+        // Where they didn't, some next draws wait for nobody.
         ensures missed { came ≡ false → 0 < self.new.skipped }
     {
         if came {

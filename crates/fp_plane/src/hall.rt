@@ -39,7 +39,7 @@ pub use tokens::{GivenUp, Refusal};
 #[derive(Debug, Drop, Clone, Copy, PartialEq, Eq)]
 pub struct EvaluatorsUsed;
 
-/// The desk and the board of one store, and what is lent of them.
+/// The desk and the board of one store, and what is lent of them: what the lock of a plane keeps.
 #[derive(Drop)]
 pub struct Hall<K: Naming, R: Wait + Drop> {
     desk: DeskHalf,
@@ -110,11 +110,16 @@ fn evaluators<R: Wait + Drop>(
 }
 
 impl<K: Naming, R: Wait + Drop> Hall<K, R> {
-    /// Over the desk's half of the committer that it is of. Nothing was accepted yet.
+    /// A hall over the desk's half of the committer that it is of. Nothing was accepted yet.
     pub fn new(rt: R, alloc: Global, desk: DeskHalf) -> Result<Hall<K, R>, AllocError>
+        // The half is the desk's of the committer that `K` names.
         requires ours { IsDeskOf K.store K.desk_lists K.store_lists desk }
+        // No edit was handed in yet.
         requires fresh { IsNewDesk desk.desk }
+        // `Ok`: nothing was accepted, no seat is taken, and nothing broke off, closed or ended.
+        // The set that the store began with is shown.
         ensures new { IfOk result (IsNew K.store) }
+        // `Ok`: nobody has any of the 16 evaluators.
         ensures all { IfOk result (λ h. length h.idle ≡ MOST_EVALUATORS) }
     {
         let mut board = OwnBoard::new(rt, alloc, desk.desk())?;
@@ -135,16 +140,25 @@ impl<K: Naming, R: Wait + Drop> Hall<K, R> {
 
     // ---- editors
 
-    /// Puts an edit behind those that wait. The ticket names the store and the edit.
+    /// Puts an edit behind those that wait, as `Desk::submit` does.
     pub fn submit(&mut self, edit: Edit) -> Result<Ticket, (Refusal, Edit)>
+        // `Ok`: as of `Desk::submit`: not stopped, admitted by the head, fewer than 1,024 not
+        // settled, and it stands behind those that wait.
         ensures accepted { OnOk result (IsAccepted self.old.desk self.new.desk (proposal_of edit)) }
+        // `Ok`: the ticket names the plane's store and the edit, with what its editor expected.
         ensures ticket { IfOk result (λ t. (t.store ≡ K.store) × (t.edit ≡ proposal_of edit)) }
+        // `Ok`: its revision is that of the last accepted edit, which this one is.
         ensures revision { IfOk result (λ t.
             t.revision ≡ K.store.start.revision + length (log self.new.desk)) }
+        // `Err`: the refusal names the edit, with what its editor expected, and has the first
+        // fault that `Desk::submit` finds.
         ensures refused { IfErr result (λ e. (e.0.edit ≡ proposal_of edit)
             × Refuses self.old.desk (proposal_of edit) e.0.fault) }
+        // `Err`: the edit comes back.
         ensures given_back { IfErr result (λ e. e.1 ≡ edit) }
+        // An `Err` changes nothing.
         ensures unchanged { OnErr result (self.new ≡ self.old) }
+        // Nothing but the desk changes.
         ensures rest { self.new ≡ record self.old { desk = self.new.desk } }
     {
         let shown = Snapshot::of(&edit);
@@ -154,12 +168,15 @@ impl<K: Naming, R: Wait + Drop> Hall<K, R> {
         }
     }
 
-    /// What is told of a ticket: `Some` exactly where its edit is settled, and all
-    /// that is settled is shown.
+    /// What is told of a ticket, once its edit is settled and shown.
     pub fn answer(&self, ticket: &Ticket) -> Option<(Told, Shown)>
+        // `Some`: what is told is of the plane's store, and has at least the ticket's revision.
         ensures told { IfSome result (λ p.
             (p.0.store ≡ K.store) × (ticket.now.revision ≤ front_revision p.0)) }
+        // `Some`: what is shown goes on from what is told.
         ensures shown { IfSome result (λ p. Begins p.0 p.1) }
+        // `None` only where the edit isn't settled, or what is settled isn't shown. Else the
+        // settled front and the one that is shown.
         ensures fronts { MatchOption result
             ((settled_revision self.now.desk < ticket.now.revision)
             ⊎ (front_revision self.now.shown < settled_revision self.now.desk))
@@ -170,12 +187,15 @@ impl<K: Naming, R: Wait + Drop> Hall<K, R> {
         Some((told, shown))
     }
 
-    /// Gives a ticket up, exactly where no edit is settled any more and its own isn't settled and
-    /// shown.
+    /// Gives a ticket up, or hands it back where something may still become of its edit.
     pub fn give_up(&self, ticket: Ticket) -> Result<GivenUp, Ticket>
+        // `Ok`: no edit is settled any more, and the ticket's isn't settled, or what is settled
+        // isn't shown.
         ensures given_up { OnOk result (IsOver self.now × IsUnanswered self.now ticket.revision) }
+        // `Err` only where that isn't so.
         ensures waits { OnErr result
             ((IsOver self.now → ⊥) ⊎ (IsUnanswered self.now ticket.revision → ⊥)) }
+        // It is this ticket, either way.
         ensures same { MatchResult result (λ g. g ≡ ticket) (λ t. t ≡ ticket) }
     {
         if self.is_over() && self.answer(&ticket).is_none() {
@@ -197,15 +217,23 @@ impl<K: Naming, R: Wait + Drop> Hall<K, R> {
     /// Draws what makes the longest batch for the store's half, where nothing is out, and answers
     /// how many edits it has.
     pub fn draw<D: Disk>(&mut self, store: &mut StoreHalf<D>) -> Result<Option<usize>, AllocError>
+        // The half is the store's of the committer that `K` names.
         requires ours { IsStoreOf K.store K.desk_lists K.store_lists store.old }
+        // It is still.
         ensures ours { IsStoreOf K.store K.desk_lists K.store_lists store.new }
+        // `Some`: as of `DeskHalf::draw`, in both halves at once. `None` only where something is
+        // drawn or nothing waits.
         ensures drawn { IfOk result (λ o. MatchOption o
             ((self.old.desk.drawn ≢ []) ⊎ (self.old.desk.waiting ≡ []))
             (λ count. HaveDrawn (desk_of self.old) (desk_of self.new) store.old store.new count)) }
+        // `None`: nothing has changed.
         ensures none { IfOk result (λ o. IfNone o
             ((self.new ≡ self.old) × (store.new ≡ store.old))) }
+        // Both halves agree on what is drawn and settled.
         ensures agree { Agree (desk_of self.new) store.new }
+        // `Err`: nothing has changed.
         ensures unchanged { OnErr result ((self.new ≡ self.old) × (store.new ≡ store.old)) }
+        // Nothing but the desk's half and the store's changes.
         ensures rest { self.new
             ≡ record self.old { desk = self.new.desk; half = self.new.half } }
     {
@@ -235,22 +263,30 @@ impl<K: Naming, R: Wait + Drop> Hall<K, R> {
 
     /// Settles what is sealed of the store's half, and answers the last revision that is settled.
     pub fn settle<D: Disk>(&mut self, store: &mut StoreHalf<D>) -> Result<Option<u64>, AllocError>
+        // The half is the store's of the committer that `K` names.
         requires ours { IsStoreOf K.store K.desk_lists K.store_lists store.old }
+        // It is still.
         ensures ours { IsStoreOf K.store K.desk_lists K.store_lists store.new }
+        // `Some`: what was sealed is settled, all of it, in both halves at once. `None` only
+        // where no batch was sealed.
         ensures settled { IfOk result (λ o. MatchOption o (store.old.progress ≢ batch_sealed)
             (λ revision. HaveSettled (desk_of self.old) (desk_of self.new)
             store.old store.new revision)) }
+        // `Err`: nothing has changed.
         ensures unchanged { OnErr result ((self.new ≡ self.old) × (store.new ≡ store.old)) }
+        // Nothing but the desk's half and the store's changes.
         ensures rest { self.new
             ≡ record self.old { desk = self.new.desk; half = self.new.half } }
     {
         self.desk.settle(store)
     }
 
-    /// Shows what is settled.
+    /// Shows what is settled, to evaluators and subscribers.
     pub fn publish(&mut self) -> Result<(), AllocError>
+        // `Ok`: what is shown is the settled front, and all else stays.
         ensures published { OnOk result (self.new
             ≡ record self.old { shown = settled_front self.old.desk }) }
+        // An `Err` changes nothing.
         ensures unchanged { OnErr result (self.new ≡ self.old) }
     {
         self.board.publish(self.desk.desk())
@@ -263,7 +299,7 @@ impl<K: Naming, R: Wait + Drop> Hall<K, R> {
         self.has_failed
     }
 
-    /// No edit is taken any more. What waits goes on.
+    /// No edit is taken any more, and the plane is to stop. What waits goes on.
     pub fn close(&mut self)
         ensures { self.new ≡ record self.old {
           desk = record self.old.desk { stopped = true };
@@ -274,9 +310,12 @@ impl<K: Naming, R: Wait + Drop> Hall<K, R> {
         self.is_closing = true;
     }
 
-    /// No batch is drawn any more, since nothing waits.
+    /// No batch is drawn any more, since nothing waits. So the flusher ends a plane that is to
+    /// stop.
     pub fn end(&mut self)
+        // The plane is to stop.
         requires closing { self.old.closing ≡ true }
+        // Nothing is drawn, and nothing waits.
         requires settled { (self.old.desk.drawn ≡ []) × (self.old.desk.waiting ≡ []) }
         ensures { self.new ≡ record self.old { ended = true } }
     {
@@ -300,9 +339,13 @@ impl<K: Naming, R: Wait + Drop> Hall<K, R> {
 
     /// An evaluator that nobody has.
     pub fn evaluator(&mut self) -> Result<Evaluator, EvaluatorsUsed>
+        // `Ok`: it is of the plane's store, and is lent nothing.
         ensures ours { IfOk result (λ e. (e.known.store ≡ K.store) × (e.lent ≡ None)) }
+        // `Ok`: it is one of those that nobody had, and isn't any more.
         ensures lent { IfOk result (λ e. self.old.idle ≡ self.new.idle ++ e ∷ []) }
+        // Refused exactly where somebody has each; nothing has changed.
         ensures used { OnErr result ((self.old.idle ≡ []) × (self.new ≡ self.old)) }
+        // Nothing else changes.
         ensures rest { self.new ≡ record self.old { idle = self.new.idle } }
     {
         match self.idle.pop() {
@@ -311,12 +354,16 @@ impl<K: Naming, R: Wait + Drop> Hall<K, R> {
         }
     }
 
-    /// Takes an evaluator back. It is let go of where none is out.
+    /// Takes an evaluator back, at rest. It is let go of where none is out.
     pub fn give_back(&mut self, evaluator: Evaluator)
+        // The evaluator is of the plane's store.
         requires { evaluator.known.store ≡ K.store }
+        // Where fewer than 16 are here, it is one of those that nobody has, and is lent nothing.
         ensures back { length self.old.idle < MOST_EVALUATORS → self.new.idle
             ≡ self.old.idle ++ (record { known = evaluator.known; lent = None }) ∷ [] }
+        // Where all are here nothing changes.
         ensures none_out { MOST_EVALUATORS ≤ length self.old.idle → self.new ≡ self.old }
+        // Nothing else changes.
         ensures rest { self.new ≡ record self.old { idle = self.new.idle } }
     {
         let mut evaluator = evaluator;
@@ -330,16 +377,19 @@ impl<K: Naming, R: Wait + Drop> Hall<K, R> {
 
     /// A seat for a subscriber that has this.
     pub fn seat(&mut self, hello: Hello) -> Result<Seat, SeatsUsed>
+        // `Ok`: fewer than 32 were taken, one more is now, and the seat has what was said.
+        // `SeatsUsed` exactly where 32 are taken.
         ensures taken { MatchResult result
             (λ s. (self.old.taken < MOST_SEATS) × (self.new.taken ≡ self.old.taken + 1)
             × (had_by s ≡ hello))
             (λ _. (MOST_SEATS ≤ self.old.taken) × (self.new.taken ≡ self.old.taken)) }
+        // Nothing else changes.
         ensures rest { self.new ≡ record self.old { taken = self.new.taken } }
     {
         self.seats.seat(hello)
     }
 
-    /// Takes a seat back.
+    /// Takes a seat back, so that one fewer is taken.
     pub fn unseat(&mut self, seat: Seat)
         ensures { self.new ≡ record self.old { taken = self.old.taken - 1 } }
     {
@@ -348,27 +398,34 @@ impl<K: Naming, R: Wait + Drop> Hall<K, R> {
 
     /// Hands what is shown to a subscriber that hasn't got it.
     pub fn hand(&mut self, seat: &mut Seat) -> Result<Option<Handed>, AllocError>
+        // `Ok`: `None` exactly where the subscriber has this revision or a greater one. Else it
+        // is handed what is shown, and has its revision.
         ensures handed { IfOk result (λ o. MatchOption o
             (¬ IsNews (had_by seat.old) self.old.shown × (had_by seat.new ≡ had_by seat.old))
             (λ h. IsNews (had_by seat.old) self.old.shown × (h ≡ self.old.shown)
             × (had_by seat.new ≡ Has (front_revision self.old.shown)))) }
+        // `Ok`: what is handed is of the plane's store.
         ensures ours { IfOk result (λ o. IfSome o (λ h. h.store ≡ K.store)) }
+        // `Err`: the seat is as it was.
         ensures unchanged { OnErr result (seat.new ≡ seat.old) }
+        // `Err` only where there was something to hand.
         ensures turn { OnErr result (IsNews (had_by seat.old) self.old.shown) }
+        // What was handed last is still there, or is what is shown.
         ensures last { (self.new.handed ≡ self.old.handed)
             ⊎ (self.new.handed ≡ Some self.old.shown) }
+        // Nothing else changes.
         ensures rest { self.new ≡ record self.old { handed = self.new.handed } }
     {
         let view = self.board.view();
         self.seats.hand(self.alloc, &view, seat)
     }
 
-    /// How often it was looked who has left, up to an overflow.
+    /// How often it was looked who has left, up to an overflow. No clause speaks of it.
     pub fn looks(&self) -> u64 {
         self.looks
     }
 
-    /// Looks who has left.
+    /// Looks who has left: nothing that is seen of the hall changes.
     pub fn look(&mut self)
         ensures { self.new ≡ self.old }
     {

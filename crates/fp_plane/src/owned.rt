@@ -109,7 +109,7 @@ impl<D: Disk + Drop> Drop for OwnHalf<D> {
 }
 
 impl<D: Disk + Drop> OwnHalf<D> {
-    /// Owns the half.
+    /// Owns the half, whose disk is let go of with it, so that a thread may be handed one.
     pub fn new(half: StoreHalf<D>) -> OwnHalf<D>
         ensures { result ≡ half }
     {

@@ -1,4 +1,10 @@
 //! The plane: what threads share.
+//!
+//! Who seals holds the hall's lock while it draws, settles and shows, and not while it calls the
+//! disk. The flusher has a condition of its own to sleep on, so that handing an edit in wakes
+//! nobody else. Editors sleep at the bell that the revision of their edit picks; subscribers, and
+//! who stops the plane, at one condition for all. Where memory is wanting, what is under way is
+//! tried again after a millisecond, without the lock.
 
 ghost use Rattle.std.specs.Prelude.{◌≡◌, ◌≤◌, true, None, IfOk, IfErr, MatchResult};
 ghost use Rattle.fp_edit.specs.Edits.{proposal_of};
@@ -40,10 +46,12 @@ pub struct Plane<K: Naming, R: Wait + Drop> {
 }
 
 impl<K: Naming, R: Wait + Copy + Drop> Plane<K, R> {
-    /// Over the desk's half of the committer that the plane is of. Where memory is wanting the half is
-    /// lost, and the store's disk is to be opened again.
+    /// A plane over the desk's half of the committer that it is of. Where memory is wanting the
+    /// half is lost, and the store's disk is to be opened again.
     pub fn new(rt: R, alloc: Global, desk: DeskHalf) -> Result<Plane<K, R>, AllocError>
+        // The half is the desk's of the committer that `K` names.
         requires ours { IsDeskOf K.store K.desk_lists K.store_lists desk }
+        // No edit was handed in yet.
         requires fresh { IsNewDesk desk.desk }
     {
         let hall = Hall::new(rt, alloc, desk)?;
@@ -61,7 +69,8 @@ impl<K: Naming, R: Wait + Copy + Drop> Plane<K, R> {
 }
 
 impl<K: Naming, R: Wait + Drop> Plane<K, R> {
-    /// One handle more.
+    /// One handle more. With the last one goes the board, which may wait for evaluators that
+    /// don't rest.
     pub fn try_copy(&self) -> Result<Plane<K, R>, AllocError> {
         Ok(Plane {
             shared: Arc::try_clone(&self.shared)?,
@@ -70,10 +79,15 @@ impl<K: Naming, R: Wait + Drop> Plane<K, R> {
 
     // ---- editors
 
-    /// Hands an edit in. The ticket names the plane's store and the edit.
+    /// Hands an edit in, behind those that wait, and wakes the flusher. A hall alone makes a
+    /// `Refusal`; `wait` tells what becomes of a ticket's edit.
     pub fn submit(&self, edit: Edit) -> Result<Ticket, (Refusal, Edit)>
+        // `Err`: the refusal names the edit, with what its editor expected.
         ensures refused { IfErr result (λ e. e.0.edit ≡ proposal_of edit) }
+        // `Ok`: the ticket names the plane's store and the edit handed in, with what its editor
+        // expected.
         ensures ticket { IfOk result (λ t. (t.store ≡ K.store) × (t.edit ≡ proposal_of edit)) }
+        // `Err`: the edit comes back.
         ensures given_back { IfErr result (λ e. e.1 ≡ edit) }
     {
         let shared = &self.shared;
@@ -83,11 +97,15 @@ impl<K: Naming, R: Wait + Drop> Plane<K, R> {
     }
 
     /// Waits until the ticket's edit is settled and shown, and gives the ticket back with what is
-    /// told of it; or gives it up, where no edit is settled any more.
+    /// told of it; or gives it up, where no edit is settled any more. A hall alone gives one up
+    /// (`Hall::give_up`).
     pub fn wait(&self, ticket: Ticket) -> Result<(Ticket, Told, Shown), GivenUp>
+        // The ticket that comes back, or is given up, is this one.
         ensures same { MatchResult result (λ p. p.0 ≡ ticket) (λ g. g ≡ ticket) }
+        // `Ok`: what is told is of the plane's store, and has at least the ticket's revision.
         ensures told { IfOk result (λ p.
             (p.1.store ≡ K.store) × (ticket.revision ≤ front_revision p.1)) }
+        // `Ok`: what is shown goes on from what is told.
         ensures shown { IfOk result (λ p. Begins p.1 p.2) }
     {
         let shared = &self.shared;
@@ -109,8 +127,10 @@ impl<K: Naming, R: Wait + Drop> Plane<K, R> {
 
     // ---- evaluators
 
-    /// An evaluator of the plane's board, refused where all are out.
+    /// An evaluator of the plane's board, for a thread that replies. Refused where all 16 are
+    /// out.
     pub fn evaluator(&self) -> Result<Evaluator, EvaluatorsUsed>
+        // `Ok`: it is of the plane's store, and is lent nothing.
         ensures { IfOk result (λ e. (e.known.store ≡ K.store) × (e.lent ≡ None)) }
     {
         self.shared.hall.lock(&self.shared.rt).evaluator()
@@ -118,6 +138,7 @@ impl<K: Naming, R: Wait + Drop> Plane<K, R> {
 
     /// Takes an evaluator back.
     pub fn give_back(&self, evaluator: Evaluator)
+        // The evaluator is of the plane's store.
         requires { evaluator.known.store ≡ K.store }
     {
         self.shared.hall.lock(&self.shared.rt).give_back(evaluator)
@@ -125,8 +146,9 @@ impl<K: Naming, R: Wait + Drop> Plane<K, R> {
 
     // ---- subscribers
 
-    /// A seat for a subscriber that has this.
+    /// A seat for a subscriber that has this. Refused where all 32 are taken.
     pub fn seat(&self, hello: Hello) -> Result<Seat, SeatsUsed>
+        // `Ok`: the seat has what was said.
         ensures { IfOk result (λ s. had_by s ≡ hello) }
     {
         self.shared.hall.lock(&self.shared.rt).seat(hello)
@@ -137,8 +159,8 @@ impl<K: Naming, R: Wait + Drop> Plane<K, R> {
         self.shared.hall.lock(&self.shared.rt).unseat(seat)
     }
 
-    /// Looks who has left of the subscribers to whom nothing new is shown: their seats are free at
-    /// once, and not within a second.
+    /// Wakes the subscribers that wait, which are asked then whether they have left. So their
+    /// seats are free at once, and not within a second.
     pub fn look_who_left(&self) {
         self.shared.hall.lock(&self.shared.rt).look();
         self.shared.news.notify_all();
@@ -146,7 +168,8 @@ impl<K: Naming, R: Wait + Drop> Plane<K, R> {
 
     // ---- the end
 
-    /// No edit is taken any more. What was taken goes on.
+    /// Closes the hall: no edit is taken any more, what was taken goes on, and the flusher is
+    /// woken. To wake it wants the lock of a hall that was closed.
     pub fn close(&self) {
         self.tell_closed(self.closed());
     }

@@ -1,4 +1,19 @@
 //! A plane, and the place where its store's half lies.
+//!
+//! Who seals: an editor tries the half's lock. Where it gets it, and whoever was told last was
+//! alone (its batch had one edit, and nobody waited behind it), it hands its edit in and draws it
+//! under one lock of the hall, seals, settles and shows it, and lets the half's lock go: no other
+//! thread is woken. Else it hands the edit in and wakes the flusher, which takes the half's lock
+//! and keeps it, also while it sleeps, until it has sealed one edit alone and nobody waits. So
+//! many editors have one that gathers for all, and one editor has no hand-over.
+//!
+//! Why no wake is lost: each edit that its editor doesn't draw itself is handed in before the
+//! flusher is woken, and the flusher sleeps under the hall's lock only where no edit waits, the
+//! plane isn't to stop and sealing didn't break off. It may have to wait for the half's lock
+//! then, which whoever seals lets go of. Whoever breaks off says so to the hall before it lets
+//! the half's lock go: so the flusher, which is woken, finds that it is over, and ends. At its
+//! end it takes the half out of its place under the lock under which it ended the hall: an editor
+//! that comes later finds none, and a hall that takes no edit.
 
 ghost use Rattle.std.specs.Prelude.{◌≡◌, ◌∷◌, [], IfOk, IfErr};
 ghost use Rattle.fp_committer.specs.StoreHalf.{StoreHalfState};
@@ -31,7 +46,7 @@ pub struct SealingPlane<K: Naming, D: Disk + Drop, R: Wait + Drop> {
 }
 
 impl<K: Naming, D: Disk + Drop, R: Wait + Drop> SealingPlane<K, D, R> {
-    /// Over a plane, whose store's half isn't there yet.
+    /// Over a plane, for one store's half, which isn't there yet.
     pub fn new(alloc: Global, plane: Plane<K, R>) -> Result<SealingPlane<K, D, R>, AllocError> {
         let place = Arc::new(alloc, Mutex::new(None))?;
         Ok(SealingPlane { plane, place })
@@ -45,18 +60,24 @@ impl<K: Naming, D: Disk + Drop, R: Wait + Drop> SealingPlane<K, D, R> {
         })
     }
 
-    /// The plane.
+    /// The plane, for those who don't hand edits in.
     pub fn plane(&self) -> &Plane<K, R> {
         &self.plane
     }
 
-    /// Puts the half in its place. The front names it for good.
+    /// Puts the half in its place, as the flusher is begun. The front names it for good.
     pub fn begin(&self, half: OwnHalf<D>, began: Growing<OwnHalf<D>>) -> Front<OwnHalf<D>>
+        // The half is the store's of the committer that `K` names.
         requires ours { IsStoreOf K.store K.desk_lists K.store_lists half }
+        // Nothing of it is drawn, and no call of the disk has failed.
         requires rest { IsResting half }
+        // The list has the name that `K` gives to the plane's beginning.
         requires named { began.name ≡ K.beginning }
+        // The list is empty.
         requires fresh { began.log ≡ [] }
+        // The front has that name.
         ensures named { result.name ≡ K.beginning }
+        // It lists this half alone.
         ensures began { result.log ≡ half ∷ [] }
     {
         let (lying, front) = Lying::new(half, began);
@@ -67,11 +88,14 @@ impl<K: Naming, D: Disk + Drop, R: Wait + Drop> SealingPlane<K, D, R> {
 }
 
 impl<K: Naming, D: Disk + Drop, R: Wait + Clock + Log + Drop> SealingPlane<K, D, R> {
-    /// Hands an edit in. An editor that is alone seals it too; else the flusher does, which is woken
-    /// behind that. The ticket names the plane's store and the edit.
+    /// Hands an edit in, as `Plane::submit` does. An editor that is alone seals it too; else the
+    /// flusher does, which is woken behind that.
     pub fn submit(&self, edit: Edit) -> Result<Ticket, (Refusal, Edit)>
+        // As of `Plane::submit`.
         ensures refused { IfErr result (λ e. e.0.edit ≡ proposal_of edit) }
+        // As of `Plane::submit`.
         ensures ticket { IfOk result (λ t. (t.store ≡ K.store) × (t.edit ≡ proposal_of edit)) }
+        // `Err`: the edit comes back.
         ensures given_back { IfErr result (λ e. e.1 ≡ edit) }
     {
         if let Some(mut place) = self.place.try_lock() {

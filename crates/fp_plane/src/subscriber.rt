@@ -34,9 +34,11 @@ pub enum SubscriberFault {
 }
 
 /// Reads a subscriber's hello, and sends it each document that is shown and that it hasn't got,
-/// until the plane is stopped, the writer fails, or it has left, which is asked each second in
-/// which nothing new is shown, and where the plane looks who has left. One that is slow gets the
+/// until the plane is stopped, the writer fails, or it has left. One that is slow gets the
 /// newest.
+///
+/// Whether it has left is asked each second in which nothing new is shown, and where the plane
+/// looks who has left.
 pub fn subscriber_loop<K, R, I, O, G>(
     plane: &Plane<K, R>,
     r: &mut FailureCounted<I>,
@@ -49,9 +51,13 @@ where
     I: Read,
     O: WriteGathered,
     G: Fn() -> bool + Drop,
+    // `has_left` may be called at any time.
     requires { G.IsAlwaysCallable has_left }
+    // `Ok`: behind a hello come frames of fronts of the plane's store, each news to who said that
+    // hello and got those before. `Device` exactly where a failure of the writer was counted.
     ensures served { Serves K.store (I.remaining r.old.inner) (I.remaining r.new.inner)
         (O.contents w.old.inner) (O.contents w.new.inner) w.old.failures w.new.failures result }
+    // `Hello` and `SeatsUsed`: nothing was written.
     ensures untouched { IfErr result (λ f. (f ≢ fault.Device) → w.new ≡ w.old) }
 {
     let hello = match read_hello(r) {

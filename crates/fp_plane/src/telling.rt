@@ -22,7 +22,9 @@ pub struct Seen {
 impl Seen {
     /// What is seen of them now.
     pub fn of<D: Disk>(store: &Store<D>) -> Seen
+        // The generation of the slot that rules.
         ensures generation { result.generation ≡ store.now.compaction.generation }
+        // Whether a compaction runs.
         ensures runs { IsTrue result.runs ↔ (store.now.compaction.next ≢ Begin) }
     {
         Seen {

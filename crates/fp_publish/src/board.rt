@@ -152,13 +152,14 @@ fn end_writer<R: Wait>(rt: &R, writer: Option<Pages>) {
 }
 
 impl Board {
-    /// Shows the desk's settled set. There is room for so many evaluators.
+    /// Shows the desk's settled set, for so many evaluators at most. It may wait.
     pub fn new<R: Wait>(
         rt: &R,
         alloc: Global,
         desk: &Desk,
         evaluators: usize,
     ) -> Result<Board, AllocError>
+        // 1 to 16 evaluators.
         requires { (0 < evaluators) × (evaluators ≤ MOST_EVALUATORS) }
         ensures { IfOk result (λ b. b ≡ settled_front desk.now) }
     {
@@ -177,9 +178,12 @@ impl Board {
         })
     }
 
-    /// An evaluator more, which knows what is shown. `Err` also where there is no room for it.
+    /// An evaluator more, for a thread that replies over what is shown. `Err` also where there is
+    /// no room for it.
     pub fn evaluator(&mut self) -> Result<Evaluator, AllocError>
+        // What is shown stays.
         ensures same { self.new ≡ self.old }
+        // `Ok`: it knows what is shown, and is lent nothing.
         ensures made { IfOk result (λ e. e ≡ record { known = self.old; lent = None }) }
     {
         let known = self.shown.again();
@@ -191,12 +195,16 @@ impl Board {
         Ok(Evaluator::new(reader, known))
     }
 
-    /// Shows the desk's settled set. It may wait for evaluators that don't rest. At `Err` they take
-    /// what they took, and the next call goes on from there.
+    /// Shows the desk's settled set. It may wait for evaluators that don't rest; at `Err` they
+    /// take what they took, and the next call goes on from there.
     pub fn publish<R: Wait>(&mut self, rt: &R, desk: &Desk) -> Result<Shown, AllocError>
+        // The desk's settled front goes on from what is shown.
         requires { Begins self.old (settled_front desk.now) }
+        // `Ok`: what is shown is the desk's settled front.
         ensures published { OnOk result (self.new ≡ settled_front desk.now) }
+        // `Ok`: the `Shown` names it.
         ensures shown { IfOk result (λ s. s ≡ self.new) }
+        // `Err`: what is shown is as before.
         ensures unchanged { OnErr result (self.new ≡ self.old) }
     {
         let Some(mut writer) = self.writer.take() else {
@@ -219,7 +227,7 @@ impl Board {
         Ok(told)
     }
 
-    /// What evaluators take now.
+    /// Lends what evaluators take now.
     pub fn view(&self) -> View<'_>
         ensures { result ≡ self.now }
     {
@@ -229,9 +237,12 @@ impl Board {
         View::of(writer.published())
     }
 
-    /// What is shown, where it is no less than what was told.
+    /// A token of what is shown, where that is no less than what was told.
     pub fn shown(&self, told: &Told) -> Option<Shown>
+        // What was told is of the board's store.
         requires { told.now.store ≡ self.now.store }
+        // `Some` exactly where the revision that is shown is at least the told one. What is shown
+        // goes on from what was told then.
         ensures { MatchOption result (front_revision self.now < front_revision told.now)
             (λ s. (s ≡ self.now) × Begins told.now s) }
     {

@@ -98,11 +98,14 @@ impl Evaluator {
         mem::replace(&mut self.held, Held::Out(reader)).end();
     }
 
-    /// Takes what is published now, in place of what was taken before. It waits for nobody. What is
-    /// taken goes on from all that this evaluator took and learnt before.
+    /// Takes what is published now, in place of what was taken before. It waits for nobody and
+    /// takes no memory.
     pub fn enter(&mut self) -> Result<(), Closed>
+        // What is known now goes on from all that this evaluator took and learnt before.
         ensures goes_on { Begins self.old.known self.new.known }
+        // `Ok`: it is lent what it knows now.
         ensures entered { OnOk result (self.new.lent ≡ Some self.new.known) }
+        // `Closed`: it is lent nothing, and knows what it knew.
         ensures closed { OnErr result (self.new ≡ record self.old { lent = None }) }
     {
         let Some(rested) = self.take() else {
@@ -125,8 +128,9 @@ impl Evaluator {
         Ok(())
     }
 
-    /// What was taken, until the evaluator rests.
+    /// Lends what was taken, until the evaluator rests. It waits for nobody and takes no memory.
     pub fn view(&self) -> Option<View<'_>>
+        // `Some` exactly where something was taken and isn't let go of, and it is that.
         ensures { MatchOption result (self.now.lent ≡ None) (λ v. self.now.lent ≡ Some v) }
     {
         let _ = &self.known;
@@ -136,7 +140,8 @@ impl Evaluator {
         }
     }
 
-    /// Lets go of what was taken. A publication waits for each evaluator that doesn't.
+    /// Lets go of what was taken, and knows it still. A publication waits for each evaluator that
+    /// doesn't, so one rests as soon as its reply is made.
     pub fn rest(&mut self)
         ensures { self.new ≡ record self.old { lent = None } }
     {
@@ -145,11 +150,16 @@ impl Evaluator {
         }
     }
 
-    /// Takes no less than this from now on. It waits for nobody.
+    /// Takes no less than this from now on, such as what its client was told elsewhere. It waits
+    /// for nobody.
     pub fn learn(&mut self, shown: &Shown)
+        // It is of the evaluator's store.
         requires { shown.now.store ≡ self.old.known.store }
+        // What is known goes on from what was known,
         ensures kept { Begins self.old.known self.new.known }
+        // and from what is learnt.
         ensures learnt { Begins shown.now self.new.known }
+        // What is lent stays.
         ensures lent { self.new.lent ≡ self.old.lent }
     {
         if self.known.is_behind(shown) {

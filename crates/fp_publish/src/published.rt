@@ -36,7 +36,7 @@ impl Model for Published {
 }
 
 impl Published {
-    /// The desk's settled set.
+    /// The desk's settled set, for who publishes without a board.
     pub fn build(desk: &Desk) -> Result<Published, AllocError>
         ensures { IfOk result (λ p. p ≡ settled_front desk.now) }
     {
@@ -93,21 +93,21 @@ impl<'a> View<'a> {
         View { page }
     }
 
-    /// The flags.
+    /// The flags: those that its front leads to.
     pub fn set(&self) -> &FlagSet
         ensures { result.now ≡ front_set self.now }
     {
         &self.page.set
     }
 
-    /// The revision that they are at.
+    /// The revision of its front.
     pub fn revision(&self) -> u64
         ensures { result ≡ front_revision self.now }
     {
         self.page.revision()
     }
 
-    /// That it is shown. It takes no memory.
+    /// A token that these edits are shown. It takes no memory.
     pub fn shown(&self) -> Shown
         ensures { result ≡ self.now }
     {

@@ -80,7 +80,7 @@ impl Handed {
         Ok(())
     }
 
-    /// The document.
+    /// The document of the set that its front leads to, as subscribers get it.
     pub fn document(&self) -> &[u8]
         ensures { result.now ≡ document (front_set self.now).flags }
     {
@@ -88,7 +88,7 @@ impl Handed {
         self.made.text()
     }
 
-    /// The revision of its set.
+    /// The revision of its front.
     pub fn revision(&self) -> u64
         ensures { result ≡ front_revision self.now }
     {
@@ -125,9 +125,10 @@ pub struct Seats {
 }
 
 impl Seats {
-    /// No seat is taken.
+    /// The seats of a board, none of which is taken.
     pub fn new() -> Seats
         ensures taken { result.taken ≡ 0 }
+        // Nothing was handed yet.
         ensures last { result.last ≡ None }
     {
         Seats {
@@ -136,12 +137,15 @@ impl Seats {
         }
     }
 
-    /// A seat for a subscriber that has this.
+    /// A seat for a subscriber that has this. Refused where all are taken.
     pub fn seat(&mut self, hello: Hello) -> Result<Seat, SeatsUsed>
+        // `Ok`: fewer than 32 were taken, one more is now, and the seat has what was said.
+        // `SeatsUsed` exactly where 32 are taken.
         ensures taken { MatchResult result
             (λ s. (self.old.taken < MOST_SEATS) × (self.new.taken ≡ self.old.taken + 1)
             × (had_by s ≡ hello))
             (λ _. (MOST_SEATS ≤ self.old.taken) × (self.new.taken ≡ self.old.taken)) }
+        // What was handed last stays.
         ensures last { self.new.last ≡ self.old.last }
     {
         if self.taken >= MOST_SEATS {
@@ -151,32 +155,38 @@ impl Seats {
         Ok(Seat { has: hello })
     }
 
-    /// Takes a seat back. Where none was taken it changes nothing.
+    /// Takes a seat back, so that one fewer is taken. Where none was taken it changes nothing.
     pub fn unseat(&mut self, _seat: Seat)
         ensures { self.new ≡ record self.old { taken = self.old.taken - 1 } }
     {
         self.taken = self.taken.saturating_sub(1);
     }
 
-    /// Hands what is published to a subscriber that hasn't got it: `None` exactly where it has
-    /// that revision or a greater one. Its document is made when the first seat asks for it,
-    /// and shared by the others.
+    /// Hands what is published to a subscriber that hasn't got it. Its document is made when the
+    /// first seat asks for it, out of the one before, and shared by the others.
     pub fn hand(
         &mut self,
         alloc: Global,
         view: &View<'_>,
         seat: &mut Seat,
     ) -> Result<Option<Handed>, AllocError>
+        // What was handed last is of this store.
         requires store { IsOfStore self.old.last view.now }
+        // `Ok`: `None` exactly where the subscriber has this revision or a greater one. Else it
+        // is handed what is lent, and has its revision.
         ensures handed { IfOk result (λ o. MatchOption o
             (¬ IsNews (had_by seat.old) view.now × (had_by seat.new ≡ had_by seat.old))
             (λ h. IsNews (had_by seat.old) view.now × (h ≡ view.now)
             × (had_by seat.new ≡ Has (front_revision view.now)))) }
+        // `Err`: the seat is as it was.
         ensures unchanged { OnErr result (seat.new ≡ seat.old) }
-        // Memory is wanting only where there is something to hand.
+        // `Err` only where there was something to hand.
         ensures turn { OnErr result (IsNews (had_by seat.old) view.now) }
+        // What was handed last is still there, or is what is lent.
         ensures last { (self.new.last ≡ self.old.last) ⊎ (self.new.last ≡ Some view.now) }
+        // What was handed last is of this store.
         ensures store { IsOfStore self.new.last view.now }
+        // As many seats are taken as before.
         ensures taken { self.new.taken ≡ self.old.taken }
     {
         if !seat.has.is_behind(view.revision()) {

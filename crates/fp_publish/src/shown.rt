@@ -83,6 +83,7 @@ impl Shown {
 
     /// Whether both are of the same edits, of one store.
     pub fn is_same(&self, other: &Shown) -> bool
+        // Both are of one store.
         requires { self.now.store ≡ other.now.store }
         ensures { IsTrue result ↔ (self.now ≡ other.now) }
     {

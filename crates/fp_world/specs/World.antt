@@ -78,13 +78,21 @@ disk_after (Err e) = e.1
 -- did where the fault is the device's
 pub record Opens {D : Type 0} (disk : Ghosts D) (old : D)
     (result : Result (StoreState D × Identity) (OpenFault × D)) : Type 0 where
+  -- H: the bytes stay.
   pub same : disk.honest old → disk.bytes (disk_after result) ≡ disk.bytes old
+  -- H: any crash state at any moment is one from before.
   pub any_moment : AtAnyMoment disk old (disk_after result) (IsOutcome (disk.unsynced old))
+  -- The disk is honest after it exactly if it was before.
   pub honest : SameHonesty disk old (disk_after result)
+  -- The calls of the disk are a sync, the length, and reads; some first ones of these at an
+  -- `Err`.
   pub called : MakesThenReads (Sync ∷ Length ∷ []) (disk.calls old)
       (disk.calls (disk_after result)) result
+  -- `Ok`: no call of the disk failed.
   pub no_failure : IfOk result (λ r. disk.faults r.0.disk ≡ disk.faults old)
+  -- `Device`: a call of the disk failed.
   pub cause : IfErr result (λ e. e.0 ≡ Device → disk.faults old < disk.faults e.1)
+  -- `Memory`: no call of the disk failed.
   pub memory : IfErr result (λ e. e.0 ≡ Memory → disk.faults e.1 ≡ disk.faults old)
 
 -- ---- a world as it begins

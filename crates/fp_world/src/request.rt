@@ -33,7 +33,8 @@ impl Model for Moment {
 }
 
 impl Moment {
-    /// So many seconds since 1970, where a reply knows that moment.
+    /// This moment, `None` exactly where it is 2^63 seconds since 1970 or later. Replies know no
+    /// such moment.
     pub fn at(seconds: u64) -> Option<Moment>
         ensures { MatchOption result (2 ^ 63 ≤ seconds) (λ m. m ≡ seconds) }
     {
@@ -46,6 +47,7 @@ impl Moment {
     /// The seconds since 1970.
     pub fn seconds(&self) -> u64
         ensures same { result ≡ self.now }
+        // They are below 2^63.
         ensures small { result < 2 ^ 63 }
     {
         self.seconds

@@ -52,8 +52,8 @@ impl<D: Disk> Model for World<D> {
 }
 
 impl<D: Disk> World<D> {
-    /// A store as it was made or opened, with its opening; a seat for each subscriber, who has what
-    /// is said here; and so many evaluators.
+    /// A world over a store as it was made or opened, with its opening. It has a seat for each
+    /// subscriber, who has what is said here, and so many evaluators.
     pub fn new<R: Wait>(
         rt: &R,
         alloc: Global,
@@ -62,11 +62,18 @@ impl<D: Disk> World<D> {
         seats: &[Hello],
         readers: usize,
     ) -> Result<World<D>, (AllocError, Store<D>, Opening)>
+        // The opening is this store's.
         requires opening { opening ≡ store.store }
+        // The store is as it was made or opened.
         requires fresh { IsFresh store store.store.start }
+        // 32 seats at most.
         requires seats { length seats.now ≤ MOST_SEATS }
+        // 16 evaluators at most.
         requires readers { readers ≤ MOST_EVALUATORS }
+        // `Ok`: nothing is accepted yet; what was told is the start, whose set is published. The
+        // seats have what is said, and there are so many evaluators.
         ensures made { IfOk result (λ w. IsNewWorld store seats.now readers w) }
+        // `Err`: store and opening come back.
         ensures given_back { IfErr result (λ e. (e.1 ≡ store) × (e.2 ≡ opening)) }
     {
         let committer = Committer::new(alloc, store, opening)?;
@@ -148,22 +155,36 @@ impl<D: Disk> World<D> {
         }
     }
 
-    /// Does what the event asks. A crash at any moment of it keeps all that was told before it, and
-    /// a crash after it all that was told by then. Only a publication may wait.
+    /// Does what the event asks, and answers what became of it. Only a publication may wait.
     pub fn step<R: Wait>(&mut self, rt: &R, event: &Event) -> Answer
+        // A step of the plain machine: which answer the event gets, in both directions, and what
+        // it changes. At a compaction's end the room is a slot's bytes less those of its head,
+        // the image of the set that was sealed as it began, and the batches sealed since.
         ensures steps { Step (machine self.old) event.now result (machine self.new) }
+        // The log grows by the edit that was answered by a ticket, and by nothing else.
         ensures log { log (desk_of self.new)
             ≡ log (desk_of self.old) ++ accepted_by event.now result }
+        // What was told is the greater of what was told before and the revision of an `Acked`, a
+        // `Handed` or a `Reply`.
         ensures told { told_of self.new ≡ told_after (told_of self.old) result }
+        // Store and desk are the same ones.
         ensures same { (self.new.committer.store.store ≡ self.old.committer.store.store)
             × ((desk_of self.new).store ≡ (desk_of self.old).store) }
+        // H: at any moment any crash state stands for the set after some first accepted edits, as
+        // many as were told before it or more.
         ensures any_moment { AtAnyMoment D.Disk (disk_of self.old) (disk_of self.new)
             (KeptFrom (desk_of self.new) (told_of self.old)) }
+        // H: after it any crash state stands for the set after as many of them as were told by
+        // then, or more.
         ensures exit { EachCrash D.Disk (disk_of self.new)
             (KeptFrom (desk_of self.new) (told_of self.new)) }
         ensures honest { SameHonesty D.Disk (disk_of self.old) (disk_of self.new) }
+        // At most one call of the disk, of one kind for each event but `Compact`: `Stage` and
+        // `OpenGate` write, `SyncBody` and `SyncGate` sync. None of the others, and none where it
+        // isn't the event's turn.
         ensures called { MakesItsCall event.now result (D.calls (disk_of self.old))
             (D.calls (disk_of self.new)) }
+        // The disk's count of failures rises exactly where `Device` is answered.
         ensures cause { RisesFor result (D.faults (disk_of self.old))
             (D.faults (disk_of self.new)) }
     {
@@ -196,19 +217,29 @@ impl<D: Disk> World<D> {
         alloc: Global,
         events: &[Event],
     ) -> Result<Vec<Answer>, AllocError>
+        // `Ok`: each event was a step in its turn, of which all holds that `World::step`
+        // promises: so a crash in a step keeps what was told before that step.
         ensures course { IfOk result (λ answers.
             Course D.Disk self.old events.now answers.items self.new) }
+        // `Ok`: the answers are a run of the plain machine.
         ensures run { IfOk result (λ answers.
             Run (machine self.old) events.now answers.items (machine self.new)) }
+        // `Ok`: the log is the one before, and behind it the accepted edits in their order.
         ensures log { IfOk result (λ answers. log (desk_of self.new)
             ≡ log (desk_of self.old) ++ accepted_edits events.now answers.items) }
+        // `Ok`: what was told is the greatest of what was told before and what the answers told.
         ensures told { IfOk result (λ answers.
             told_of self.new ≡ told_by (told_of self.old) answers.items) }
+        // H: at any moment any crash state stands for the set after some first accepted edits, as
+        // many as were told as it began or more.
         ensures any_moment { AtAnyMoment D.Disk (disk_of self.old) (disk_of self.new)
             (KeptFrom (desk_of self.new) (told_of self.old)) }
+        // H: after it any crash state stands for the set after as many of them as were told by
+        // then, or more.
         ensures exit { EachCrash D.Disk (disk_of self.new)
             (KeptFrom (desk_of self.new) (told_of self.new)) }
         ensures honest { SameHonesty D.Disk (disk_of self.old) (disk_of self.new) }
+        // `Err`, which is out of memory: nothing changed.
         ensures err { OnErr result (self.new ≡ self.old) }
     {
         self.committer.rest();
@@ -219,7 +250,11 @@ impl<D: Disk> World<D> {
     /// Gives the disk back. It may wait for an evaluator elsewhere.
     pub fn into_disk<R: Wait>(self, rt: &R) -> D
         ensures disk { result ≡ disk_of self }
+        // H: any crash state stands for the set after some first accepted edits, as many as were
+        // told or more.
         ensures outcomes { EachCrash D.Disk result (KeptFrom (desk_of self) (told_of self)) }
+        // H: where no call failed, a read gives what is sealed, with the batch in flight exactly
+        // where its gate was opened.
         ensures stands { D.honest result → (machine self).commits.failed ≡ false →
             StandsFor (D.bytes result) (opened_set (machine self).commits) }
     {
@@ -228,25 +263,31 @@ impl<D: Disk> World<D> {
         committer.into_disk()
     }
 
-    /// Opens the disk again, and gives the set that it then stands for.
-    /// It syncs before it reads, and writes nothing.
+    /// Opens the disk again, and gives the set that it then stands for. It syncs before it reads,
+    /// and writes nothing.
     pub fn reopen<R: Wait>(
         self,
         rt: &R,
         alloc: Global,
     ) -> Result<(Store<D>, Opening), (OpenFault, D)>
+        // `Ok`: the store is as it was opened: nothing is sealed since or on its way, no call has
+        // failed, and no compaction runs.
         ensures fresh { IfOk result (λ r. IsFresh r.0 r.0.store.start) }
+        // `Ok`: the opening names this store.
         ensures opening { IfOk result (λ r. r.1 ≡ r.0.store) }
+        // One record, `Opens`: what it leaves of the disk.
         ensures opens { Opens D.Disk (disk_of self) result }
 
-        // Whatever failed: the set after some first accepted edits, as many as were told or more.
+        // H: whatever failed, at `Ok` the set is the one after some first accepted edits, as many
+        // as were told or more.
         ensures kept { D.honest (disk_of self) →
             IfOk result (λ r. IsAfterFirst (desk_of self) (told_of self) r.0.store.start) }
 
-        // Where no call failed: what is sealed, and with it what is in flight
-        // once its gate was opened.
+        // H: where no call failed, at `Ok` it is what is sealed, with the batch in flight exactly
+        // where its gate was opened.
         ensures set { D.honest (disk_of self) → (machine self).commits.failed ≡ false →
             IfOk result (λ r. r.0.store.start ≡ opened_set (machine self).commits) }
+        // H: it is refused only with `Device` or `Memory`.
         ensures refused { D.honest (disk_of self) →
             IfErr result (λ e. (e.0 ≡ Device) ⊎ (e.0 ≡ Memory)) }
     {
@@ -254,16 +295,23 @@ impl<D: Disk> World<D> {
     }
 }
 
-/// Opens a disk that holds what a crash left of a world. Where that keeps the log from some
-/// revision on, as `World` promises of each crash, the set is the one after some first accepted
-/// edits, as many as that revision or more. It syncs before it reads, and writes nothing.
+/// Opens a disk that holds what a crash left of a world, and gives the set that it stands for. It
+/// syncs before it reads, and writes nothing.
 pub fn recover<D: Disk>(alloc: Global, disk: D) -> Result<(Store<D>, Opening), (OpenFault, D)>
+    // `Ok`: the store is as it was opened: nothing is sealed since or on its way, no call has
+    // failed, and no compaction runs.
     ensures fresh { IfOk result (λ r. IsFresh r.0 r.0.store.start) }
+    // `Ok`: the opening names this store.
     ensures opening { IfOk result (λ r. r.1 ≡ r.0.store) }
+    // One record, `Opens`: what it leaves of the disk.
     ensures opens { Opens D.Disk disk result }
+    // H: where the disk keeps a desk's log from some revision on, as `World` promises of each
+    // crash state: at `Ok` the set is the one after some first accepted edits, as many as that
+    // revision says or more.
     ensures kept { D.honest disk → (desk : DeskState) (told : ℕ) →
         KeptFrom desk told (D.bytes disk)
         → IfOk result (λ r. IsAfterFirst desk told r.0.store.start) }
+    // H: such a disk is refused only with `Device` or `Memory`.
     ensures refused { D.honest disk → (desk : DeskState) (told : ℕ) →
         KeptFrom desk told (D.bytes disk) → IfErr result (λ e. (e.0 ≡ Device) ⊎ (e.0 ≡ Memory)) }
 {

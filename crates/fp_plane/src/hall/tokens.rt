@@ -24,7 +24,7 @@ impl Model for Refusal {
 }
 
 impl Refusal {
-    /// Why.
+    /// Why the edit wasn't taken.
     pub fn fault(&self) -> SubmitFault
         ensures { result ≡ self.now.fault }
     {
