@@ -138,8 +138,8 @@ impl<D: Disk> Journal<D> {
         }
     }
 
-    /// Goes on in another slot, where these bytes stand up to a closed gate behind
-    /// the first so many. It makes no call of the disk.
+    /// Goes on in another slot, where the first so many of these bytes stand before a closed gate.
+    /// It makes no call of the disk.
     pub fn switch(&mut self, slot: Slot, text: &Vec<u8>, len: u64)
         // No body is on its way.
         requires idle { self.old.phase ≡ Idle }

@@ -33,7 +33,7 @@ impl Model for Replayer {
 impl Replayer {
     /// Nothing read yet, and no flags; `fp_layout` hands it a slot's image, then each batch. A set
     /// of changes in a slot of version 1 is damage at its kind; an edit that the set doesn't accept
-    /// at its own, or at the kind of the first change of it that isn't as expected.
+    /// at its own kind, or at that of the first change in it that the set doesn't accept.
     pub fn new(alloc: Global) -> Replayer
         ensures { result ≡ nothing_read }
     {
