@@ -99,10 +99,11 @@ KeepsStep disk old new = disk.honest old.journal.disk → (size : ℕ) (s : Stat
 -- all of it, and the calls
 pub record TakesStep {D : Type 0} (disk : Ghosts D) (old new : SlotsState D) : Type 0 where
   -- H: any crash state at any moment stands for the kept set, or, with its gate begun, for what the
-  -- batch on its way makes of it. From `Open` on the other slot has to be to hold that set.
+  -- batch on its way makes of it. From `Open` on this wants that the other slot is to hold that
+  -- set.
   pub stands : LeavesStep disk old new
-  -- H: the set that was kept is kept, in the one slot or the other. From `Open` on the other has to
-  -- be to hold it.
+  -- H: the set that was kept is kept, in the one slot or the other. From `Open` on this wants that
+  -- the other slot is to hold it.
   pub kept : KeepsStep disk old new
   -- The disk is honest after it exactly if it was before.
   pub honest : SameHonesty disk old.journal.disk new.journal.disk

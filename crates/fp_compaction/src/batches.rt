@@ -174,8 +174,8 @@ pub fn phase<D: Disk>(slots: &Slots<D>) -> Phase
     ensures begun { has_begun slots.now.journal.phase slots.now.journal.begun
         ≡ slots.now.journal.begun }
     // H: any crash state now stands for the kept set, or, with its gate begun, for what the batch
-    // on its way makes of it; also where a call failed. From `Open` on the other slot has to be to
-    // hold that set.
+    // on its way makes of it; also where a call failed. From `Open` on this wants that the other
+    // slot is to hold that set.
     ensures outcomes { LeavesNow D.Disk slots.now }
     // H: at `GateOpened`, until the tail is written, what is read stands for what the batch makes
     // of the set.
