@@ -98,9 +98,17 @@ KeepsStep disk old new = disk.honest old.journal.disk → (size : ℕ) (s : Stat
 
 -- all of it, and the calls
 pub record TakesStep {D : Type 0} (disk : Ghosts D) (old new : SlotsState D) : Type 0 where
+  -- H: any crash state at any moment stands for the kept set, or, with its gate begun, for what the
+  -- batch on its way makes of it. From `Open` on this wants that the other slot is to hold that
+  -- set.
   pub stands : LeavesStep disk old new
+  -- H: the set that was kept is kept, in the one slot or the other. From `Open` on this wants that
+  -- the other slot is to hold it.
   pub kept : KeepsStep disk old new
+  -- The disk is honest after it exactly if it was before.
   pub honest : SameHonesty disk old.journal.disk new.journal.disk
+  -- The calls of the step, also at a fault: a write at `Close`, if the gate counts as open, `Part`,
+  -- `Tail` and `Open`; a sync at the others; none at `Begin`.
   pub called : disk.calls new.journal.disk
       ≡ disk.calls old.journal.disk ++ calls_of old.step old.may_open
 
@@ -147,13 +155,23 @@ pub record BreaksOff {D : Type 0} (faults : D → ℕ) (old new : SlotsState D) 
 -- last one turns them. Or the device failed, and the step is still to be taken
 pub record StepsOn {D T : Type 0} (disk : Ghosts D) (old new : SlotsState D)
     (result : Result T DiskFault) : Type 0 where
+  -- What it leaves, what it keeps, and its calls, as of `take_step`.
   pub taken : TakesStep disk old new
+  -- `Ok`: the step that follows is next, a `Part` for each 65,536 bytes begun of head and image; a
+  -- fault: the same step.
   pub step : OnOk result (new.step ≡ next_step old.step old.left)
       × OnErr result (new.step ≡ old.step)
+  -- `Ok`: by a `Part` what is left of head and image falls by 65,536 bytes, or to none; by another
+  -- step it stays.
   pub left : OnOk result (new.left ≡ next_left old.step old.left)
+  -- `Ok`, but for the last step: nothing but the step and what is left changed.
   pub stays : OnOk result (old.step ≢ SyncOpen → Stays old new)
+  -- `Ok`, at the last step: the slots are turned, under the next generation and version 2; the gate
+  -- of the one that ruled counts as open, and the room is what lies behind the planned text.
   pub turned : OnOk result (old.step ≡ SyncOpen → Turns old new)
+  -- `Ok`: no call of the disk failed.
   pub no_failure : OnOk result (disk.faults new.journal.disk ≡ disk.faults old.journal.disk)
+  -- A fault: a call of the disk failed, so the journal has failed; nothing else changed.
   pub broken : OnErr result (BreaksOff disk.faults old new)
 
 -- ---- what a crash leaves now, and what a read gives

@@ -55,7 +55,9 @@ fn fits_tail(size: u64, tail: u64, len: u64) -> bool
     more <= quarter && tail <= quarter - more
 }
 
-/// Whether there is room for a batch whose body has so many bytes.
+/// Whether there is room for a batch whose body has so many bytes. Exactly where it is as short as
+/// its slot takes, fits behind the last gate, no tail was written yet, and, while a compaction
+/// runs, the tail takes a quarter of a slot at most with it.
 pub fn has_room<D: Disk>(slots: &Slots<D>, len: u64) -> bool
     ensures { IsTrue result ↔ HasRoomFor slots.now len }
 {

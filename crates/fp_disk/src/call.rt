@@ -18,7 +18,7 @@ impl Model for Bytes {
 }
 
 impl Bytes {
-    /// A copy of these.
+    /// A copy of these bytes.
     pub fn copy_of(alloc: Global, bytes: &[u8]) -> Result<Bytes, AllocError>
         ensures { IfOk result (λ b. b ≡ bytes.now) }
     {

@@ -90,14 +90,18 @@ impl MemoryDisk {
         Ok(left)
     }
 
-    /// The disk after a crash at this moment: it holds what the choice says, with nothing pending,
-    /// and none of its calls fails.
+    /// The disk after a crash at this moment, of which no call fails. The choice says which of the
+    /// crash states it is; a write that failed may be shown whole.
     pub fn crash(self, choice: Choice<'_>) -> Result<MemoryDisk, AllocError>
+        // `Ok`: it holds exactly the bytes that were chosen.
         ensures left { IfOk result
             (λ m. IsLeft choice.entry.length choice.entry.writes.now choice.entry.rest
             (state self) m.first) }
+        // `Ok`: they are a crash state of this moment.
         ensures outcome { IfOk result (λ m. IsOutcome (unsynced_of (state self)) m.first) }
+        // `Ok`: nothing is pending, and no call was made.
         ensures fresh { IfOk result (λ m. m ≡ fresh m.first) }
+        // `Ok`: it holds nothing but bytes, so it is honest.
         ensures honest { IfOk result (λ m. HoldsBytes m.first m.calls) }
     {
         MemoryDisk::holding(self.alloc, self.left_by(&choice)?)

@@ -29,7 +29,8 @@ impl<F: Drop> Model for FileDisk<F> {
 }
 
 impl<F: Drop> FileDisk<F> {
-    /// The disk over a file that was opened to be read and written.
+    /// The disk, of no call yet, over a file that was opened to be read and written. It is never
+    /// honest, so that of `Disk`'s clauses `called` and `cause` alone say something of it.
     pub fn over(file: F) -> FileDisk<F>
         ensures { result ≡ record { made = []; faults = 0 } }
     {
@@ -40,7 +41,7 @@ impl<F: Drop> FileDisk<F> {
     }
 }
 
-/// The disk, of no failure yet, over the file at this path, made where there is none. What is in it
+/// The disk, of no call yet, over the file at this path, made where there is none. What is in it
 /// stays.
 pub fn create_file<R: Files>(rt: &R, path: &str) -> Result<FileDisk<R::File>, DiskFault>
     ensures { IfOk result (λ d. d ≡ record { made = []; faults = 0 }) }
@@ -48,7 +49,7 @@ pub fn create_file<R: Files>(rt: &R, path: &str) -> Result<FileDisk<R::File>, Di
     open_as(rt, path, true)
 }
 
-/// The disk over the file at this path. It is a fault where there is none.
+/// The disk, of no call yet, over the file at this path. It is a fault where there is none.
 pub fn open_file<R: Files>(rt: &R, path: &str) -> Result<FileDisk<R::File>, DiskFault>
     ensures { IfOk result (λ d. d ≡ record { made = []; faults = 0 }) }
 {

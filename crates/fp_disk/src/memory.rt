@@ -55,7 +55,9 @@ impl Model for MemoryDisk {
 impl MemoryDisk {
     /// An empty disk, of which no call fails.
     pub fn new(alloc: Global) -> MemoryDisk
+        // Nothing is pending, and no call was made.
         ensures fresh { result ≡ fresh [] }
+        // It holds nothing but bytes, so it is honest.
         ensures honest { HoldsBytes result.first result.calls }
     {
         let bytes = Vec::new(alloc);
@@ -73,9 +75,11 @@ impl MemoryDisk {
         }
     }
 
-    /// A disk that holds these bytes, with nothing pending, of which no call fails.
+    /// A disk that holds these bytes, of which no call fails.
     pub fn holding(alloc: Global, bytes: Vec<u8>) -> Result<MemoryDisk, AllocError>
+        // `Ok`: nothing is pending, and no call was made.
         ensures fresh { IfOk result (λ m. m ≡ fresh bytes.items) }
+        // `Ok`: it holds nothing but bytes, so it is honest.
         ensures honest { IfOk result (λ m. HoldsBytes m.first m.calls) }
     {
         let synced = bytes.to_vec(alloc)?;
@@ -93,18 +97,23 @@ impl MemoryDisk {
         })
     }
 
-    /// From now on these calls fail.
+    /// From now on these calls fail, counted from 0; a write that fails so does nothing, or puts
+    /// its first half.
     pub fn set_failing(&mut self, failing: Failing, writes: FailedWrite)
+        // All else stays.
         ensures failing { self.new ≡ record self.old { failing = failing; failed_writes = writes } }
+        // It holds nothing but bytes, so it is honest.
         ensures honest { HoldsBytes self.new.first self.new.calls }
     {
         self.failing = failing;
         self.failed_writes = writes;
     }
 
-    /// The calls so far, but for those that found no memory.
+    /// The calls so far in order, each with how much of it was done, but for those that left no
+    /// record.
     pub fn calls(&self) -> &[Call]
         ensures calls { result.now ≡ self.now.calls }
+        // It holds nothing but bytes, so it is honest.
         ensures honest { HoldsBytes self.now.first self.now.calls }
     {
         self.calls.as_slice()
@@ -212,8 +221,12 @@ impl Disk for MemoryDisk {
     ghost only_now = { λ m c h left. only m.first m.calls c left };
 
     fn len(&mut self) -> Result<u64, DiskFault>
+        // `Ok`: the call was to pass, and is recorded. A fault: it was to fail, and is recorded so;
+        // or no memory was found, and it did nothing and left no record.
         ensures recorded { Answered self.old self.new Len Nothing result }
+        // It holds nothing but bytes, so it is honest.
         ensures honest { HoldsBytes self.new.first self.new.calls }
+        // `Ok`: so many bytes are there.
         ensures answer { IfOk result (λ n. n ≡ length (state self.old).bytes) }
     {
         let progress = self.failing.progress();
@@ -229,10 +242,14 @@ impl Disk for MemoryDisk {
     }
 
     fn read_at(&mut self, at: u64, into: &mut [u8]) -> Result<(), DiskFault>
+        // All these places are there.
         requires { HoldsBytes self.old.first self.old.calls →
             at + length into.old ≤ length (state self.old).bytes }
+        // As of `MemoryDisk::len`.
         ensures recorded { Answered self.old self.new (Read at (length into.old)) Nothing result }
+        // It holds nothing but bytes, so it is honest.
         ensures honest { HoldsBytes self.new.first self.new.calls }
+        // `Ok`: these are the bytes that stand there.
         ensures answer { OnOk result
             (into.new ≡ slice_range (state self.old).bytes at (at + length into.old)) }
     {
@@ -255,9 +272,13 @@ impl Disk for MemoryDisk {
     }
 
     fn write_at(&mut self, at: u64, from: &[u8]) -> Result<(), DiskFault>
+        // As of `MemoryDisk::len`. A write that was to fail puts nothing, or its first half; one
+        // that would end past 2^64 leaves no record either.
         ensures recorded { Answered self.old self.new (Write at from.now)
             (write_progress self.old.failed_writes self.old.failing) result }
+        // What is written is numbers from 0 to 255.
         ensures bytes { AreBytes from.now }
+        // It holds nothing but bytes, so it is honest.
         ensures honest { HoldsBytes self.new.first self.new.calls }
     {
         let progress = self.failed_writes.progress(self.failing);
@@ -282,7 +303,9 @@ impl Disk for MemoryDisk {
     }
 
     fn sync(&mut self) -> Result<(), DiskFault>
+        // As of `MemoryDisk::len`.
         ensures recorded { Answered self.old self.new Sync Nothing result }
+        // It holds nothing but bytes, so it is honest.
         ensures honest { HoldsBytes self.new.first self.new.calls }
     {
         let progress = self.failing.progress();

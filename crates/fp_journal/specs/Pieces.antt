@@ -29,7 +29,11 @@ MakesThenReads kinds old new (Err e) = ThenSomeReads kinds old new
 -- ---- the disk
 -- Nothing but reads were made: the disk is as it was, and so is what a crash leaves of it
 pub record OnlyReads {D : Type 0} (disk : Ghosts D) (old new : D) : Type 0 where
+  -- H: what is read and pending stays.
   pub same : disk.honest old → (disk.bytes new ≡ disk.bytes old)
       × (disk.unsynced new ≡ disk.unsynced old)
+  -- H: a crash at any moment leaves what one could leave before. The disk is honest after it
+  -- exactly if it was before.
   pub word : KeepsWord disk old new (IsOutcome (disk.unsynced old))
+  -- No calls of the disk but reads.
   pub called : ThenReads [] (disk.calls old) (disk.calls new)

@@ -72,7 +72,10 @@ pub trait Reader {
 
     /// Takes the next body. After a fault it isn't read from again.
     fn take(&mut self, body: &[u8]) -> Result<(), BodyFault>
+        // Asked of a reader. `Ok`: it took the body.
         ensures taken { OnOk result (takes self.old body.now self.new) }
+        // `BadBody`: the first byte that shows that it is none to take now, at its end at the
+        // latest; or `Memory`.
         ensures fault { IfErr result (IsWrong (length body.now) (refuses self.old body.now)) };
 }
 
@@ -155,15 +158,25 @@ pub fn read_chain<D: Disk, R: Reader>(
     reader: &mut R,
     text: &mut Text,
 ) -> Result<u64, ChainFault>
+    // The chain begins within the disk, or at its end.
     requires there { at ≤ len }
+    // H: the disk has this length.
     requires long { D.honest disk.old → len ≡ length (D.bytes disk.old) }
+    // `Ok`: the reader took bodies in order, and their text stands behind the one given. H: they
+    // are the one chain that stands there, and this is its closed gate.
     ensures found { IfOk result (ReadsChain (D.honest disk.old) R.takes slot.most at slot.stop
         (D.bytes disk.old) reader.old reader.new text.old text.new) }
+    // H: `Damaged`: the first byte that shows that there is no chain, or what the reader says of a
+    // body.
     ensures fault { D.honest disk.old → IfErr result
         (Refuses R.takes R.refuses slot.most at slot.stop (D.bytes disk.old) reader.old) }
+    // What it leaves of the disk.
     ensures kept { OnlyReads D.Disk disk.old disk.new }
+    // `Ok`: no call of the disk failed.
     ensures no_failure { OnOk result (D.faults disk.new ≡ D.faults disk.old) }
+    // `Device`: a call of the disk failed.
     ensures cause { IsErrOf result Device → D.faults disk.old < D.faults disk.new }
+    // `Memory`: no call of the disk failed.
     ensures memory { IsErrOf result Memory → D.faults disk.new ≡ D.faults disk.old }
 {
     let limit = slot.stop.min(len);

@@ -41,6 +41,7 @@ impl Model for Framed {
 impl Framed {
     /// Takes all the memory that writing this body costs, so that no later call needs any.
     pub fn new(alloc: Global, body: &[u8]) -> Result<Framed, AllocError>
+        // The body has fewer than 2^32 bytes.
         requires { length body.now < 2 ^ 32 }
         ensures { IfOk result (λ f. f ≡ body.now) }
     {
@@ -51,7 +52,7 @@ impl Framed {
         Ok(Framed { bytes })
     }
 
-    /// How many bytes of a slot the body takes, with its own gate in front
+    /// How many bytes of a slot the body takes, which are its own and 6, with its own gate in front
     /// of its length and the closed gate behind it.
     pub fn cost(&self) -> u64
         ensures { result ≡ length self.now + FRAME }

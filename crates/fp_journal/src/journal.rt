@@ -93,15 +93,23 @@ impl<D: Disk> Model for Journal<D> {
 
 impl<D: Disk> Journal<D> {
     /// Goes on in a slot whose bytes up to `end` are those of `opened`, with a closed gate there.
+    /// The disk gets a new name, so that no older token is one of its own.
     pub fn adopt(alloc: Global, disk: D, slot: Slot, opened: &Vec<u8>, end: u64) -> Journal<D>
+        // The end lies behind the slot's first byte, or there, and within these bytes.
         requires place { (slot.start ≤ end) × (end ≤ length opened.now.items) }
+        // The gate lies within the slot.
         requires within { end < slot.stop }
+        // H: the last sync made sure of that text and of a closed gate behind it, and no write
+        // since reached them.
         requires quiet { D.honest disk →
             EndsClosed slot.start slot.stop (slice_range opened.now.items slot.start end)
             (D.unsynced disk) }
+        // It lies in this slot, behind that text.
         ensures slot { (result.slot ≡ slot)
             × (result.front ≡ slice_range opened.now.items slot.start end) }
+        // Nothing is sealed and no body is on its way.
         ensures begins { (result.sealed ≡ []) × (result.phase ≡ Idle) }
+        // The disk stays as it is.
         ensures disk { result.disk ≡ disk }
     {
         let front = Text::new(&opened[slot.start as usize..end as usize]);
@@ -130,19 +138,27 @@ impl<D: Disk> Journal<D> {
         }
     }
 
-    /// Goes on in another slot, where these bytes stand up to a closed gate behind
-    /// the first so many. It makes no call of the disk.
+    /// Goes on in another slot, where the first so many of these bytes stand before a closed gate.
+    /// It makes no call of the disk.
     pub fn switch(&mut self, slot: Slot, text: &Vec<u8>, len: u64)
+        // No body is on its way.
         requires idle { self.old.phase ≡ Idle }
+        // There are so many bytes.
         requires place { len ≤ length text.now.items }
+        // The gate lies within the slot.
         requires within { slot.start + len < slot.stop }
+        // H: the last sync made sure of that text in this slot and of a closed gate behind it, and
+        // no write since reached them.
         requires quiet { D.honest self.old.disk →
             EndsClosed slot.start slot.stop (slice_range text.now.items 0 len)
             (D.unsynced self.old.disk) }
+        // It lies in this slot, behind that text.
         ensures slot { (self.new.slot ≡ slot)
             × (self.new.front ≡ slice_range text.now.items 0 len) }
+        // Nothing is sealed and no body is on its way.
         ensures begins { (self.new.sealed ≡ []) × (self.new.phase ≡ Idle)
             × (self.new.begun ≡ false) }
+        // The disk stays as it is, with its name.
         ensures disk { (self.new.disk ≡ self.old.disk) × (self.new.disk_name ≡ self.old.disk_name) }
     {
         self.slot = slot;
@@ -152,9 +168,10 @@ impl<D: Disk> Journal<D> {
         self.front = Text::new(&text[..len as usize]);
     }
 
-    /// Where it lies.
+    /// The slot in which it lies.
     pub fn slot(&self) -> Slot
         ensures slot { result ≡ self.now.slot }
+        // No body that it sealed is longer than the slot allows.
         ensures short { AllShort result.most self.now.sealed }
     {
         let _ = &self.end;
@@ -170,8 +187,10 @@ impl<D: Disk> Journal<D> {
 
     /// The bytes of the body on its way: its length, the body, and a closed gate.
     pub fn bytes_on_way(&self) -> &[u8]
+        // A body is on its way, and no call has failed.
         requires { IsOnWay self.now.phase }
         ensures bytes { result.now ≡ with_gate self.now.staged }
+        // The body is no longer than the slot allows.
         ensures short { length self.now.staged ≤ self.now.slot.most }
     {
         let _ = &self.end;
@@ -181,9 +200,12 @@ impl<D: Disk> Journal<D> {
     /// How far the body on its way is, which says what a crash would leave now.
     pub fn phase(&self) -> Phase
         ensures phase { result ≡ self.now.phase }
+        // `begun` is false up to `BodySynced` and true at `GateOpened`; at `Failed` it is either.
         ensures begun { has_begun self.now.phase self.now.begun ≡ self.now.begun }
+        // H: each crash state has the chain of the sealed bodies; or, only where `begun`, of those
+        // and the staged one.
         ensures outcomes { EachCrash D.Disk self.now.disk (CrashStates self.now) }
-        // Once the gate is open, the body is read behind those that are sealed.
+        // H: at `GateOpened` what is read has the chain of the sealed bodies and the staged one.
         ensures reads { D.honest self.now.disk → self.now.phase ≡ GateOpened →
             HasChain self.now.slot self.now.front (self.now.sealed ++ self.now.staged ∷ [])
             (D.bytes self.now.disk) }
@@ -194,6 +216,7 @@ impl<D: Disk> Journal<D> {
     /// Gives the disk back.
     pub fn into_disk(self) -> D
         ensures disk { result ≡ self.disk }
+        // H: each crash state is as `phase` says.
         ensures outcomes { EachCrash D.Disk result (CrashStates self) }
     {
         let Journal {
@@ -210,18 +233,27 @@ impl<D: Disk> Journal<D> {
 }
 
 impl<D: Disk> Journal<D> {
-    /// Writes the body behind its length, and a closed gate behind it.
+    /// Writes the body behind its length, and a closed gate behind it, in one write.
     pub fn stage(&mut self, framed: Framed) -> Result<(), DiskFault>
+        // No body is on its way.
         requires idle { self.old.phase ≡ Idle }
+        // The body is no longer than the slot allows.
         requires short { length framed ≤ self.old.slot.most }
+        // There is room for it: its bytes and 6.
         requires room { length framed + FRAME ≤ room self.old }
+        // The sealed bodies stay, and this one is staged.
         ensures bodies { (self.new.sealed ≡ self.old.sealed) × (self.new.staged ≡ framed) }
+        // `Ok`: `Staged`; a fault: `Failed`.
         ensures phase { OnOk result (self.new.phase ≡ Staged)
             × OnErr result (self.new.phase ≡ Failed) }
+        // No call has begun to open the gate.
         ensures begun { self.new.begun ≡ false }
+        // H: any crash state at any moment has the chain of the sealed bodies. What lies outside
+        // the slot stays.
         ensures kept { KeepsAround D.Disk self.old self.new
             (HasChain self.old.slot self.old.front self.old.sealed)
             (Outside self.old.slot) result }
+        // One call of the disk, a write, also at a fault.
         ensures called { D.calls self.new.disk ≡ D.calls self.old.disk ++ Write ∷ [] }
     {
         self.held = Held::Failed(false);
@@ -233,25 +265,34 @@ impl<D: Disk> Journal<D> {
 
     /// Makes sure of all that was written, at any phase, and tells it by a token.
     pub fn sync(&mut self) -> Result<Synced<D>, DiskFault>
+        // `Ok`: the token names the journal's disk and this moment.
         ensures token { IfOk result (λ s. (s.disk ≡ self.new.disk_name)
             × (s.moment ≡ D.moment self.new.disk)) }
+        // H: the bytes stay.
         ensures same_bytes { D.honest self.old.disk →
             D.bytes self.new.disk ≡ D.bytes self.old.disk }
+        // H: `Ok`: they are the one crash state.
         ensures durable { D.honest self.old.disk →
             OnOk result (D.unsynced self.new.disk ≡ all_synced (D.bytes self.old.disk)) }
 
-        // What was staged, or the open gate, is in every outcome now.
+        // H: `Ok`: what was staged is in each crash state; once the gate was opened, the new chain
+        // is.
         ensures firm { D.honest self.new.disk →
             OnOk result ((c : List ℕ) → IsOutcome (D.unsynced self.new.disk) c →
             StatesAfterSync self.new c) }
 
+        // The sealed bodies and the staged one stay.
         ensures bodies { (self.new.sealed ≡ self.old.sealed) × (self.new.staged ≡ self.old.staged) }
+        // `Ok`: as before; a fault: `Failed`.
         ensures phase { OnOk result (self.new.phase ≡ self.old.phase)
             × OnErr result (self.new.phase ≡ Failed) }
+        // As before.
         ensures begun { self.new.begun ≡ self.old.begun }
+        // H: any crash state at any moment is as `phase` says. All text stays.
         ensures kept { KeepsAround D.Disk self.old self.new
             (CrashStates self.old)
             (λ at n. Unit {0}) result }
+        // One call of the disk, a sync, also at a fault.
         ensures called { D.calls self.new.disk ≡ D.calls self.old.disk ++ Sync ∷ [] }
     {
         let failed = self.held.failed();
@@ -264,33 +305,47 @@ impl<D: Disk> Journal<D> {
     /// Takes the sync that made sure of the body, whose gate is closed still.
     /// It makes no call of the disk.
     pub fn body_synced(&mut self, synced: Synced<D>)
+        // The phase is `Staged`.
         requires staged { self.old.phase ≡ Staged }
+        // The token is of a sync of this disk, no later than now.
         requires token { IsSyncOf D.honest D.moment self.old.disk self.old.disk_name synced }
+        // H: every crash state has the staged body behind its closed gate.
         requires firm { EachCrash D.Disk self.old.disk
             (HasNext self.old.slot self.old.front self.old.sealed self.old.staged) }
+        // The slot stays, and the front and the names.
         ensures same { SameSlot self.old self.new }
+        // The disk stays as it is.
         ensures disk { self.new.disk ≡ self.old.disk }
+        // The sealed bodies and the staged one stay.
         ensures bodies { (self.new.sealed ≡ self.old.sealed) × (self.new.staged ≡ self.old.staged) }
+        // The phase is `BodySynced`; no call has begun to open the gate.
         ensures phase { (self.new.phase ≡ BodySynced) × (self.new.begun ≡ false) }
     {
         self.held = Held::BodySynced(synced);
     }
 
-    /// Opens the gate in front of the body.
+    /// Opens the gate in front of the body, by a write of one byte.
     pub fn open_gate(&mut self) -> Result<(), DiskFault>
+        // The phase is `BodySynced`.
         requires { self.old.phase ≡ BodySynced }
+        // The sealed bodies and the staged one stay.
         ensures bodies { (self.new.sealed ≡ self.old.sealed) × (self.new.staged ≡ self.old.staged) }
+        // `Ok`: `GateOpened`; a fault: `Failed`.
         ensures phase { OnOk result (self.new.phase ≡ GateOpened)
             × OnErr result (self.new.phase ≡ Failed) }
+        // Either way a call has begun to open the gate.
         ensures begun { self.new.begun ≡ true }
 
-        // What a read gives now has the body.
+        // H: `Ok`: what is read has the staged body in its chain.
         ensures reads { D.honest self.old.disk →
             OnOk result (HasChain self.old.slot self.old.front
             (self.old.sealed ++ self.old.staged ∷ []) (D.bytes self.new.disk)) }
+        // H: any crash state at any moment has the chain of the sealed bodies, or of those and the
+        // staged one. What lies outside the slot stays.
         ensures kept { KeepsAround D.Disk self.old self.new
             (HasChainOrNext self.old.slot self.old.front self.old.sealed self.old.staged)
             (Outside self.old.slot) result }
+        // One call of the disk, a write, also at a fault.
         ensures called { D.calls self.new.disk ≡ D.calls self.old.disk ++ Write ∷ [] }
     {
         let Held::BodySynced(synced) = mem::replace(&mut self.held, Held::Failed(true)) else {
@@ -308,16 +363,25 @@ impl<D: Disk> Journal<D> {
     /// Takes the sync that made sure of the open gate: the body is sealed.
     /// It makes no call of the disk.
     pub fn gate_synced(&mut self, synced: Synced<D>) -> Sealed
+        // The phase is `GateOpened`.
         requires opened { self.old.phase ≡ GateOpened }
+        // The token is of a sync of this disk, no later than now.
         requires token { IsSyncOf D.honest D.moment self.old.disk self.old.disk_name synced }
+        // H: every crash state has the chain with the new body.
         requires firm { EachCrash D.Disk self.old.disk
             (HasChain self.old.slot self.old.front (self.old.sealed ++ self.old.staged ∷ [])) }
+        // The slot stays, and the front and the names.
         ensures same { SameSlot self.old self.new }
+        // The disk stays as it is.
         ensures disk { self.new.disk ≡ self.old.disk }
+        // The body is sealed, and none is on its way.
         ensures sealed { (self.new.sealed ≡ self.old.sealed ++ self.old.staged ∷ [])
             × (self.new.phase ≡ Idle) }
+        // No call has begun to open the next gate.
         ensures begun { self.new.begun ≡ false }
+        // The token says for good that this journal has sealed these bodies.
         ensures token { (result.name ≡ self.new.name) × (result.bodies ≡ self.new.sealed) }
+        // H: each crash state has the chain of the sealed bodies.
         ensures exit { EachCrash D.Disk self.new.disk
             (HasChain self.new.slot self.new.front self.new.sealed) }
     {

@@ -116,20 +116,28 @@ pub(crate) fn read_on<D: Disk>(
     Ok(())
 }
 
-/// So many bytes of a disk from a place on. No call reads more than a piece.
+/// So many bytes of a disk from a place on. It reads in pieces of at most 65,536.
 pub fn read_bytes<D: Disk>(
     alloc: Global,
     disk: &mut D,
     at: u64,
     count: usize,
 ) -> Result<Vec<u8>, BytesFault>
+    // The place behind them is below 2^64.
     requires fits { at + count < 2 ^ 64 }
+    // H: so many bytes are there.
     requires within { D.honest disk.old → at + count ≤ length (D.bytes disk.old) }
+    // H: `Ok`: they stand at this place.
     ensures stands { D.honest disk.old → IfOk result (λ v. Holds (D.bytes disk.old) at v.items) }
+    // `Ok`: there are so many.
     ensures long { IfOk result (λ v. length v.items ≡ count) }
+    // What it leaves of the disk.
     ensures kept { OnlyReads D.Disk disk.old disk.new }
+    // `Ok`: no call of the disk failed.
     ensures no_failure { OnOk result (D.faults disk.new ≡ D.faults disk.old) }
+    // `Device`: a call of the disk failed.
     ensures cause { IsErrOf result Device → D.faults disk.old < D.faults disk.new }
+    // `Memory`: no call of the disk failed.
     ensures memory { IsErrOf result Memory → D.faults disk.new ≡ D.faults disk.old }
 {
     let mut bytes = Vec::with_capacity(alloc, count)?;
@@ -145,14 +153,22 @@ pub fn read_first<D: Disk>(
     count: usize,
     len: u64,
 ) -> Result<Vec<u8>, BytesFault>
+    // The place lies within the disk, or at its end.
     requires within { at ≤ len }
+    // H: the disk has this length.
     requires long { D.honest disk.old → len ≡ length (D.bytes disk.old) }
+    // H: `Ok`: they stand at this place, so many or as many as there are.
     ensures first { D.honest disk.old →
         IfOk result (λ v. AreFirst (D.bytes disk.old) at count v.items) }
+    // `Ok`: so many, or as many as this length leaves.
     ensures many { IfOk result (λ v. length v.items ≡ min count (len - at)) }
+    // What it leaves of the disk.
     ensures kept { OnlyReads D.Disk disk.old disk.new }
+    // `Ok`: no call of the disk failed.
     ensures no_failure { OnOk result (D.faults disk.new ≡ D.faults disk.old) }
+    // `Device`: a call of the disk failed.
     ensures cause { IsErrOf result Device → D.faults disk.old < D.faults disk.new }
+    // `Memory`: no call of the disk failed.
     ensures memory { IsErrOf result Memory → D.faults disk.new ≡ D.faults disk.old }
 {
     let there = (len - at).min(count as u64) as usize;

@@ -53,7 +53,7 @@ impl Sealed {
         Sealed { front }
     }
 
-    /// The bodies as a beginning of the journal's list.
+    /// The bodies as a beginning of the list of all that this journal seals.
     pub fn into_front(self) -> Front<Body>
         ensures { (result.name ≡ self.name) × (result.log ≡ self.bodies) }
     {

@@ -38,7 +38,7 @@ impl Model for Text {
 }
 
 impl Text {
-    /// These bytes.
+    /// These bytes, as a text that is there in proofs alone and costs nothing.
     pub fn new(bytes: &[u8]) -> Text
         ensures { result ≡ bytes.now }
     {
@@ -49,14 +49,14 @@ impl Text {
         text
     }
 
-    /// And these behind them.
+    /// Puts these bytes behind it.
     pub fn push(&mut self, more: &[u8])
         ensures { self.new ≡ self.old ++ more.now }
     {
         self.bytes.lengthen::<&[u8], Bytes>(&more);
     }
 
-    /// And this body, behind its length and an open gate.
+    /// Puts a body behind it, with its length and an open gate.
     pub fn push_body(&mut self, body: &[u8])
         ensures { self.new ≡ self.old ++ OPEN ∷ with_length body.now }
     {

@@ -14,11 +14,19 @@ use Rattle.fp_layout.specs.declared.fault.OpenFault.TheVariants.{Device, Memory}
 -- where the fault is the device's
 pub record Opens {D T : Type 0} (disk : Ghosts D) (kinds : List CallKind) (old new : D)
     (result : Result T OpenFault) : Type 0 where
+  -- H: the bytes stay.
   pub same : disk.honest old → disk.bytes new ≡ disk.bytes old
+  -- H: a crash at any moment leaves what one could leave before. The disk is honest after it
+  -- exactly if it was before.
   pub word : KeepsWord disk old new (IsOutcome (disk.unsynced old))
+  -- `Ok`: these calls of the disk, and behind them reads alone; at a fault perhaps some first ones
+  -- of them alone.
   pub called : MakesThenReads kinds (disk.calls old) (disk.calls new) result
+  -- `Ok`: no call of the disk failed.
   pub no_failure : OnOk result (disk.faults new ≡ disk.faults old)
+  -- `Device`: a call of the disk failed.
   pub cause : IfErr result (λ f. f ≡ Device → disk.faults old < disk.faults new)
+  -- `Memory`: no call of the disk failed.
   pub memory : IfErr result (λ f. f ≡ Memory → disk.faults new ≡ disk.faults old)
 
 -- ---- where the disk is in what was opened, or beside the fault

@@ -99,42 +99,62 @@ fn format<D: Disk>(disk: &mut D, size: SlotSize, closed: &[u8]) -> Result<(), Di
     write_synced(disk, 0, &[OPEN])
 }
 
-/// Makes an empty disk one of this layout, with no flag and revision 0,
-/// and its two slots, of which the first rules.
+/// Makes an empty disk one of this layout, with no flag and revision 0, and its two slots, of which
+/// the first rules. Each fault gives the disk back. The header's gate opens last.
 pub fn create<D: Disk>(
     alloc: Global,
     mut disk: D,
     size: SlotSize,
 ) -> Result<Slots<D>, (CreateFault, D)>
+    // `Ok`: the journal lies in the first slot, behind an image of no flags; nothing is sealed and
+    // no body is on its way.
     ensures journal { IfOk result (λ s. (s.journal.slot ≡ first_slot size)
         × (s.journal.front ≡ new_front) × (s.journal.sealed ≡ []) × (s.journal.phase ≡ Idle)) }
+    // `Ok`: the other slot is the second, whose gate counts as closed; generation 1, version 2, and
+    // no compaction runs.
     ensures beside { IfOk result (λ s. (s.other ≡ second_slot size) × (s.generation ≡ 1)
         × (s.version ≡ VERSION) × (s.step ≡ Begin) × (s.may_open ≡ false)) }
+    // H: `Ok`: the bytes are those of a new disk, each of them.
     ensures made { D.honest disk → IfOk result (λ s. IsNewDisk size (D.bytes s.journal.disk)) }
+    // H: `Ok`: they are the one crash state.
     ensures all_synced { D.honest disk → IfOk result (λ s. D.unsynced s.journal.disk
         ≡ all_synced (D.bytes s.journal.disk)) }
+    // H: `Ok`: there is a header of this size, and the first slot rules, with an image of no flags
+    // at revision 0.
     ensures stands { D.honest disk → IfOk result (λ s. IsHeader (D.bytes s.journal.disk) size
         × IsActive (D.bytes s.journal.disk) size (first_slot size) (second_slot size)
         × IsHead (D.bytes s.journal.disk) HEADER size VERSION 1 0 empty_image) }
+    // H: `NotEmpty`: there were bytes.
     ensures not_empty { D.honest disk → IfErr result (λ e. e.0 ≡ NotEmpty → D.bytes disk ≢ []) }
+    // H: `Ok`: the disk had no bytes.
     ensures empty { D.honest disk → IsOk result → D.bytes disk ≡ [] }
+    // H: of an empty disk, all of it synced: any crash state at any moment is no disk of this
+    // layout, or the whole new one.
     ensures any_moment { D.honest disk → D.unsynced disk ≡ all_synced []
         → MatchResult result (λ s. LeavesOnly D.moment D.crash_states_since disk s.journal.disk
         (IsNewOrNone size)) (λ e. LeavesOnly D.moment D.crash_states_since disk e.1
         (IsNewOrNone size)) }
+    // The disk is honest after it exactly if it was before.
     ensures honest { MatchResult result (λ s. SameHonesty D.Disk disk s.journal.disk)
         (λ e. SameHonesty D.Disk disk e.1) }
+    // `Ok`: ten calls of the disk: length; write, sync; write, write, sync; write, sync; write,
+    // sync. A fault: some first ones of them.
     ensures called { MatchResult result (λ s. D.calls s.journal.disk
         ≡ D.calls disk ++ Length ∷ format_calls) (λ e. MakesSome (Length ∷ format_calls)
         (D.calls disk) (D.calls e.1)) }
+    // Any fault but `Device`: the disk's length was asked for, and nothing else.
     ensures untouched { IfErr result (λ e. (e.0 ≡ Device)
         ⊎ (D.calls e.1 ≡ D.calls disk ++ Length ∷ [])) }
 
-    // Where it holds bytes it stays, whatever failed, and else where the device didn't fail.
+    // H: at a fault of a disk that had bytes, and at any fault but `Device`: what is read and
+    // pending stays, and a crash at any moment leaves what one could leave before.
     ensures kept { D.honest disk → IfErr result (λ e. (D.bytes disk ≢ []) ⊎ (e.0 ≢ Device)
         → IsUntouched D.Disk disk e.1) }
+    // `Ok`: no call of the disk failed.
     ensures no_failure { IfOk result (λ s. D.faults s.journal.disk ≡ D.faults disk) }
+    // `Device`: a call of the disk failed.
     ensures cause { IfErr result (λ e. e.0 ≡ Device → D.faults disk < D.faults e.1) }
+    // Any other fault: no call of the disk failed.
     ensures unfailed { IfErr result (λ e. e.0 ≢ Device → D.faults e.1 ≡ D.faults disk) }
 {
     match disk.len() {

@@ -40,9 +40,13 @@ pub trait SlotReader: Reader {
     /// The image is none, as its byte at this offset is the first to show.
     ghost rejects: { Self → ℕ → ℕ → ℕ → List ℕ → ℕ → Type 0 };
 
-    /// Takes the image.
+    /// Takes the image of the slot that rules, before any body.
     fn begin(&mut self, version: u8, base: u64, limit: u64, image: &[u8]) -> Result<(), BodyFault>
+        // Asked of a reader. `Ok`: it has begun with this image, of a slot of this version, at this
+        // revision, under this limit.
         ensures taken { OnOk result (begins self.old version base limit image.now self.new) }
+        // `BadBody`: the first byte that shows that it is no such image, at its end at the latest;
+        // or `Memory`.
         ensures fault { IfErr result
             (IsWrong (length image.now) (rejects self.old version base limit image.now)) };
 }
@@ -263,20 +267,28 @@ pub struct Place {
     pub gate: u64,
 }
 
-/// Gives a reader what stands in the slot that rules. Nothing is synced and nothing written.
+/// Gives a reader what stands in the slot that rules, and answers that slot and the place of the
+/// closed gate behind it. Nothing is synced and nothing written.
 pub fn read_disk<D: Disk, R: SlotReader>(
     alloc: Global,
     disk: &mut D,
     reader: &mut R,
 ) -> Result<Place, OpenFault>
+    // H: `Ok`: the header is there, this slot rules, and the reader has taken its image and then
+    // each body, in order.
     ensures found { D.honest disk.old → IfOk result (λ p.
         FoundDisk R.begins R.takes (D.bytes disk.old) reader.old reader.new p.slot
         (slice_range (D.bytes disk.old) p.slot.start p.gate)) }
+    // H: `Ok`: this is the place of the closed gate behind the last body.
     ensures gate { D.honest disk.old → IfOk result (λ p.
         p.gate ≡ p.slot.start + length (slice_range (D.bytes disk.old) p.slot.start p.gate)) }
+    // H: `Err`: the first fault of header, slots, head and chain, no body read past the slot;
+    // inside image and body, what the reader says; or `Device` or `Memory`.
     ensures fault { D.honest disk.old → IfErr result
         (RefusesDisk R.begins R.rejects R.takes R.refuses (D.bytes disk.old) reader.old) }
+    // H: what is pending stays.
     ensures unsynced { D.honest disk.old → D.unsynced disk.new ≡ D.unsynced disk.old }
+    // What it leaves of the disk; its calls are length, and behind it reads.
     ensures kept { Opens D.Disk (Length ∷ []) disk.old disk.new result }
 {
     let Front {
@@ -293,28 +305,40 @@ pub fn read_disk<D: Disk, R: SlotReader>(
     Ok(Place { slot, gate })
 }
 
-/// Opens a disk: gives what stands in the slot that rules to the reader, and goes on behind it.
+/// Opens a disk: gives what stands in the slot that rules to the reader, and goes on behind it. A
+/// fault gives the disk back.
 pub fn open<D: Disk, R: SlotReader>(
     alloc: Global,
     mut disk: D,
     reader: &mut R,
 ) -> Result<Slots<D>, (OpenFault, D)>
+    // `Ok`: nothing is sealed, no body is on its way and no compaction runs.
     ensures begins { IfOk result (λ s. (s.journal.sealed ≡ []) × (s.journal.phase ≡ Idle)
         × (s.step ≡ Begin)) }
+    // H: `Ok`: the journal goes on in the slot that rules, behind all that stands there, which the
+    // reader has taken in order.
     ensures found { D.honest disk → IfOk result (λ s. FoundDisk R.begins R.takes (D.bytes disk)
         reader.old reader.new s.journal.slot s.journal.front) }
+    // H: `Ok`: the two slots are the disk's, and the journal's rules, under this generation and of
+    // this version.
     ensures slots { D.honest disk → IfOk result (λ s.
         HasSlots (D.bytes disk) s.journal.slot s.other s.version s.generation) }
-    // Where its gate is closed a compaction doesn't close it again.
+    // H: `Ok`: the other slot's gate counts as open exactly where it is. Where it is closed a
+    // compaction doesn't close it again.
     ensures other_gate { D.honest disk → IfOk result (λ s. IsTrue s.may_open
         ↔ (slice_index (D.bytes disk) s.other.start ≡ OPEN)) }
-    // Where the disk doesn't keep its word too: what the journal goes on behind was read.
+    // `Ok`, over any disk: the slots are the two of a disk, and what the journal goes on behind was
+    // read: a head, with whose image the reader has begun, and bodies, which it has then taken in
+    // order.
     ensures read { IfOk result (λ s. ReadsSlot R.begins R.takes reader.old reader.new
         s.journal.slot s.other s.version s.generation s.journal.front) }
+    // H: `Err`: as of `read_disk`.
     ensures fault { D.honest disk → IfErr result (λ e.
         RefusesDisk R.begins R.rejects R.takes R.refuses (D.bytes disk) reader.old e.0) }
+    // H: `Ok`: the bytes are the one crash state.
     ensures all_synced { D.honest disk → IfOk result (λ s. D.unsynced s.journal.disk
         ≡ all_synced (D.bytes disk)) }
+    // As of `read_disk`, but its calls are sync, length, and behind them reads.
     ensures kept { OpensDisk D.Disk (λ s. s.journal.disk) disk result }
 {
     let front = match sync_front(alloc, &mut disk, reader) {

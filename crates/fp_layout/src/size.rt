@@ -40,7 +40,7 @@ impl Model for SlotSize {
 }
 
 impl SlotSize {
-    /// The size that the program gives a new disk.
+    /// The size that the program gives the slots of a new disk, 2^24 bytes.
     pub const fn standard() -> SlotSize
         ensures { result ≡ STANDARD_SLOT }
     {
@@ -49,9 +49,11 @@ impl SlotSize {
         }
     }
 
-    /// The size of this many bytes, if it is one.
+    /// The size of this many bytes, if a slot may have it.
     pub fn new(bytes: u64) -> Option<SlotSize>
+        // There is one exactly where the number is a power of two from 2^18 to 2^30.
         ensures allowed { IsSome result ↔ IsSlotSize bytes }
+        // It has so many bytes.
         ensures value { IfSome result (λ s. s ≡ bytes) }
     {
         if bytes.is_power_of_two() && (SMALLEST_SLOT..=LARGEST_SLOT).contains(&bytes) {
@@ -64,14 +66,17 @@ impl SlotSize {
     /// How many bytes that is.
     pub fn bytes(self) -> u64
         ensures bytes { result ≡ self }
+        // A power of two from 2^18 to 2^30.
         ensures allowed { IsSlotSize result }
     {
         self.bytes
     }
 
-    /// The first slot, which begins behind the header.
+    /// The first slot, which begins behind the header, at 64. A batch with both its gates takes an
+    /// eighth of it at most.
     pub fn first_slot(self) -> Slot
         ensures slot { result ≡ first_slot self }
+        // The size is a power of two from 2^18 to 2^30.
         ensures allowed { IsSlotSize self }
     {
         Slot {
@@ -81,7 +86,8 @@ impl SlotSize {
         }
     }
 
-    /// The second slot, which begins behind the first.
+    /// The second slot, which begins behind the first. A batch with both its gates takes an eighth
+    /// of it at most.
     pub fn second_slot(self) -> Slot
         ensures slot { result ≡ second_slot self }
     {

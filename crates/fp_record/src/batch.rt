@@ -66,8 +66,11 @@ impl Model for Batch {
 impl Batch {
     /// The batch of these edits, whose revisions are `first` and those that follow it.
     pub fn new(first: u64, edits: Vec<Edit>) -> Batch
+        // At least one edit.
         requires some { 0 < vec_len edits }
+        // At most `MOST_EDITS`, 64.
         requires few { vec_len edits ≤ MOST_EDITS }
+        // The last revision is below `REVISIONS_END`, 2^63; the first may be 0.
         requires revisions { first + vec_len edits ≤ REVISIONS_END }
         ensures { result ≡ record { first = first; changes = changes_of edits.items } }
     {
@@ -95,9 +98,11 @@ impl Batch {
         self.edits
     }
 
-    /// The batch's spelling.
+    /// The batch as bytes, for the journal to keep.
     pub fn encode(&self, alloc: Global) -> Result<Vec<u8>, AllocError>
+        // `Ok`: the batch is one that has a spelling.
         ensures lawful { IfOk result (λ _. IsBatch self.now) }
+        // `Ok`: these bytes are its spelling.
         ensures spelled { IfOk result (λ bytes. bytes.items ≡ encoding_of_batch self.now) }
     {
         spelled(alloc, self.first, &self.edits)
@@ -105,22 +110,26 @@ impl Batch {
 
     /// The batch that the bytes spell, all of them.
     pub fn decode(alloc: Global, bytes: &[u8]) -> Result<Batch, RecordFault>
+        // `Ok`: a batch that has a spelling, and the bytes are it, to the last.
         ensures spelled { IfOk result (λ batch.
             IsBatch batch × (bytes.now ≡ encoding_of_batch batch)) }
-        // What spells a batch is decoded, unless memory runs out.
+        // Bytes that spell a batch give that batch, or `Memory`.
         ensures found { (batch : Group) → IsBatch batch → bytes.now ≡ encoding_of_batch batch
             → (result ≡ Ok batch) ⊎ (result ≡ Err Memory) }
-        // Where the first fault is.
+        // `BadRecord`: at the first byte of the first field that can't stand there; of bytes left
+        // over, the first.
         ensures place { Gives (λ batch. batch) Tells result (batch_in bytes.now) }
     {
         whole_batch(alloc, bytes)
     }
 }
 
-/// How many bytes an edit takes in a batch.
+/// How many bytes an edit takes in a batch, without encoding it.
 #[tactic(auto, using(crate::proofs::Texts::definition_short))]
 pub fn encoded_len(edit: &Edit) -> usize
+    // Of an edit of one flag or of a set: exactly as many as its spelling has.
     ensures len { result ≡ length (encoding_of_change (change_of edit.now)) }
+    // At most `LONGEST_EDIT`.
     ensures small { result ≤ LONGEST_EDIT }
 {
     match edit {
@@ -209,14 +218,20 @@ fn spelled(alloc: Global, first: u64, edits: &[Edit]) -> Result<Vec<u8>, AllocEr
     Ok(out)
 }
 
-/// How many edits a batch has, behind that first revision, and the place of the first.
+/// How many edits a batch has, behind that first revision, and the place of the first. For who
+/// reads a batch edit by edit.
 #[tactic(auto, unfolding(crate::specs::Reading::count_at))]
 pub fn count_from(bytes: &[u8], first: u64, at: usize) -> Result<(u16, usize), RecordFault>
+    // The place lies within the bytes, or at their end.
     requires { at ≤ length bytes.now }
+    // The count that stands there, or `BadRecord` at this place.
     ensures value { Gives (λ x. x) Tells result (count_at first bytes.now at) }
+    // `Ok`: the place behind it lies within the bytes, or at their end.
     ensures within { IfOk result (λ x. x.1 ≤ length bytes.now) }
+    // `Ok`: 1 to `MOST_EDITS`, the last of them at a revision below `REVISIONS_END`.
     ensures some { IfOk result (λ x. (0 < x.0) × (x.0 ≤ MOST_EDITS)
         × (first + x.0 ≤ REVISIONS_END)) }
+    // It takes no memory, and never answers `Memory`.
     ensures no_memory { IfErr result (λ e. e ≢ Memory) }
 {
     let (count, next) = u16_at(bytes, at)?;

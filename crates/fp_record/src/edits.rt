@@ -245,12 +245,17 @@ fn set_from(
     Ok((Edit::Set(Changes::of_lawful(parts)), next))
 }
 
-/// The edit at this place, by an editor that expects nothing, and the place behind it.
+/// The edit at this place, by an editor that expects nothing, and the place behind it. For who
+/// makes the edits of a batch one by one.
 #[tactic(auto, unfolding(crate::specs::Reading::change_at))]
 pub fn edit_from(alloc: Global, bytes: &[u8], at: usize) -> Result<(Edit, usize), RecordFault>
+    // The place lies within the bytes, or at their end.
     requires { at ≤ length bytes.now }
+    // `Ok`: its editor expects nothing, of no change of a set either.
     ensures free { IfOk result (λ x. proposal_of x.0 ≡ unconditional (change_of x.0)) }
+    // The edit that stands there, or the first field that can't stand there, or `Memory`.
     ensures value { Gives (λ x. (change_of x.0, x.1)) Tells result (change_at bytes.now at) }
+    // `Ok`: the place behind it lies within the bytes, or at their end.
     ensures within { IfOk result (λ x. x.1 ≤ length bytes.now) }
 {
     let (kind, next) = u8_at(bytes, at)?;

@@ -12,10 +12,15 @@ use crate::fault::RecordFault;
 use fp_definition::{Definition, FlagKey, KeyFault, LONGEST_DEFINITION, LONGEST_KEY};
 use std::alloc::Global;
 
+/// The byte at this place, and the place behind it.
 pub fn u8_at(bytes: &[u8], at: usize) -> Result<(u8, usize), RecordFault>
+    // The place lies within the bytes, or at their end.
     requires { at ≤ length bytes.now }
+    // The number that stands there, or `BadRecord` at this place where bytes are missing.
     ensures value { Gives (λ x. x) Tells result (number_at w8 bytes.now at) }
+    // `Ok`: the place behind it lies within the bytes, or at their end.
     ensures within { IfOk result (λ x. x.1 ≤ length bytes.now) }
+    // It takes no memory, and never answers `Memory`.
     ensures no_memory { IfErr result (λ e. e ≢ Memory) }
 {
     if bytes.len() - at < 1 {
@@ -49,11 +54,16 @@ pub fn u32_at(bytes: &[u8], at: usize) -> Result<(u32, usize), RecordFault>
     Ok((number, at + 4))
 }
 
-/// The number in the eight bytes from this place on, and the place behind it.
+/// The number in the eight bytes from this place on, the highest byte first, and the place behind
+/// it.
 pub fn u64_at(bytes: &[u8], at: usize) -> Result<(u64, usize), RecordFault>
+    // The place lies within the bytes, or at their end.
     requires { at ≤ length bytes.now }
+    // The number that stands there, or `BadRecord` at this place where bytes are missing.
     ensures value { Gives (λ x. x) Tells result (number_at w64 bytes.now at) }
+    // `Ok`: the place behind it lies within the bytes, or at their end.
     ensures within { IfOk result (λ x. x.1 ≤ length bytes.now) }
+    // It takes no memory, and never answers `Memory`.
     ensures no_memory { IfErr result (λ e. e ≢ Memory) }
 {
     if bytes.len() - at < 8 {

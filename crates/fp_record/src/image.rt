@@ -50,6 +50,7 @@ impl Model for Image {
 impl Image {
     /// The image of these flags.
     pub fn new(flags: Vec<(FlagKey, Flag)>) -> Image
+        // At most `MOST_FLAGS` flags, by ascending keys, each key once, none changed at revision 0.
         requires { IsOrdered (entries_of flags.items) }
         ensures { result ≡ entries_of flags.items }
     {
@@ -64,25 +65,29 @@ impl Image {
         Ok(Image { flags })
     }
 
-    /// The flags with their keys, in ascending order.
+    /// The flags with their keys.
     pub fn flags(&self) -> &[(FlagKey, Flag)]
         ensures flags { entries_of result.now ≡ self.now }
+        // At most `MOST_FLAGS`, by ascending keys, each key once, none changed at revision 0.
         ensures ordered { IsOrdered self.now }
     {
         &self.flags
     }
 
-    /// The flags by value.
+    /// The flags with their keys, by value.
     pub fn into_flags(self) -> Vec<(FlagKey, Flag)>
         ensures flags { entries_of result.items ≡ self }
+        // As of `flags`.
         ensures ordered { IsOrdered self }
     {
         self.flags
     }
 
-    /// The image's spelling.
+    /// The image as bytes, for a slot to begin with.
     pub fn encode(&self, alloc: Global) -> Result<Vec<u8>, AllocError>
+        // `Ok`: the image is one that has a spelling.
         ensures lawful { IfOk result (λ _. IsImage self.now) }
+        // `Ok`: these bytes are its spelling.
         ensures spelled { IfOk result (λ bytes. bytes.items ≡ encoding_of_image self.now) }
     {
         spelled(alloc, &self.flags)
@@ -90,12 +95,14 @@ impl Image {
 
     /// The image that the bytes spell, all of them.
     pub fn decode(alloc: Global, bytes: &[u8]) -> Result<Image, RecordFault>
+        // `Ok`: an image that has a spelling, and the bytes are it, to the last.
         ensures spelled { IfOk result (λ image.
             IsImage image × (bytes.now ≡ encoding_of_image image)) }
-        // What spells an image is decoded, unless memory runs out.
+        // Bytes that spell an image give that image, or `Memory`.
         ensures found { (image : List (List ℕ × Flag)) → IsImage image
             → bytes.now ≡ encoding_of_image image → (result ≡ Ok image) ⊎ (result ≡ Err Memory) }
-        // Where the first fault is.
+        // `BadRecord`: at the first byte of the first field that can't stand there; of bytes left
+        // over, the first.
         ensures place { Gives (λ image. image) Tells result
             (image_in any_revision bytes.now) }
     {
@@ -197,7 +204,7 @@ pub struct FoundFlag<'a> {
 }
 
 /// The flag at this place, under a key above the one before, changed at the newest revision or
-/// before.
+/// before. For who reads an image flag by flag.
 #[tactic(auto, unfolding(crate::specs::Reading::flag_at))]
 pub fn flag_from<'a>(
     alloc: Global,
@@ -206,9 +213,13 @@ pub fn flag_from<'a>(
     before: &[u8],
     at: usize,
 ) -> Result<FoundFlag<'a>, RecordFault>
+    // The place lies within the bytes, or at their end.
     requires { at ≤ length bytes.now }
+    // The flag that stands there, its key's text and the place behind it, or the first field that
+    // can't stand there, or `Memory`.
     ensures value { Gives (λ x. (entry_of x.flag, (x.text.now, x.next))) Tells result
         (flag_at newest bytes.now (before.now, at)) }
+    // `Ok`: the place behind it lies within the bytes, or at their end.
     ensures within { IfOk result (λ x. x.next ≤ length bytes.now) }
 {
     let (text, next) = key_text_above(bytes, before, at)?;
@@ -251,12 +262,16 @@ fn flags_from(
     Ok((flags, place))
 }
 
-/// How many flags an image has, and the place of the first.
+/// How many flags an image has, and the place of the first. For who reads an image flag by flag.
 #[tactic(auto, unfolding(crate::specs::Reading::flag_count))]
 pub fn flag_count_from(bytes: &[u8]) -> Result<(u32, usize), RecordFault>
+    // The count at the front, or `BadRecord` at 0.
     ensures value { Gives (λ x. x) Tells result (flag_count bytes.now) }
+    // `Ok`: the place behind it lies within the bytes, or at their end.
     ensures within { IfOk result (λ x. x.1 ≤ length bytes.now) }
+    // `Ok`: at most `MOST_FLAGS`.
     ensures few { IfOk result (λ x. x.0 ≤ MOST_FLAGS) }
+    // It takes no memory, and never answers `Memory`.
     ensures no_memory { IfErr result (λ e. e ≢ Memory) }
 {
     let (count, next) = u32_at(bytes, 0)?;

@@ -13,12 +13,13 @@ pub fn images_stand_alone()
     ensures { ImagesStandAlone }
 {}
 
-/// The length of a batch's spelling is known without the spelling.
+/// A batch takes `BATCH_HEAD` bytes, 10, and those of its changes. So its length is known without
+/// its spelling.
 pub fn batches_take_their_changes()
     ensures { BatchesTakeTheirChanges }
 {}
 
-/// The length of an image's spelling is what a set of flags keeps as its size.
+/// The image of a set takes as many bytes as the set keeps as its size.
 pub fn images_take_their_sets_size()
     ensures { ImagesTakeTheirSetsSize }
 {}

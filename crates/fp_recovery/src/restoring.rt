@@ -31,7 +31,9 @@ impl Model for Replayer {
 }
 
 impl Replayer {
-    /// No flags yet.
+    /// Nothing read yet, and no flags; `fp_layout` hands it a slot's image, then each batch. A set
+    /// of changes in a slot of version 1 is damage at its kind; an edit that the set doesn't accept
+    /// at its own kind, or at that of the first change in it that the set doesn't accept.
     pub fn new(alloc: Global) -> Replayer
         ensures { result ≡ nothing_read }
     {
@@ -42,7 +44,7 @@ impl Replayer {
         }
     }
 
-    /// The set as it has come.
+    /// The set as the image and the batches so far have made it.
     pub fn into_set(self) -> FlagSet
         ensures { result ≡ self.set }
     {

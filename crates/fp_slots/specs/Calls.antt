@@ -18,9 +18,13 @@ KeepsOutside disk old new P result =
 -- the slots stay, and so does the journal's phase unless the device failed
 pub record KeepsSlots {D T : Type 0} (disk : Ghosts D) (old new : SlotsState D)
     (P : List ℕ → Type 0) (result : Result T DiskFault) : Type 0 where
+  -- The slots stay, what they hold, and what the other one is to hold.
   pub same : SameSlots old new
+  -- `Ok`: the phase stays; a fault: it is `Failed`.
   pub phase : OnOk result (new.journal.phase ≡ old.journal.phase)
       × OnErr result (new.journal.phase ≡ Failed)
+  -- H: at any moment of its call a crash leaves what the clause names. Text outside both slots
+  -- stays sure. A fault exactly where the count of failures rose.
   pub call : KeepsOutside disk old new P result
 
 -- ---- of a part of the image
@@ -47,5 +51,8 @@ WritesPart disk old new = IsPartWritten disk.bytes disk.unsynced old.journal.dis
 -- the compaction beside it stays
 pub record KeepsCompaction {D T : Type 0} (disk : Ghosts D) (old new : SlotsState D)
     (P : List ℕ → Type 0) (result : Result T DiskFault) : Type 0 where
+  -- The slots and the compaction beside it stay.
   pub same : SameCompaction old new
+  -- H: at any moment of its call a crash leaves what the clause names. Text outside both slots
+  -- stays sure. A fault exactly where the count of failures rose.
   pub call : KeepsOutside disk old new P result

@@ -48,21 +48,30 @@ fn generation_of(bytes: &[u8]) -> u64
     ])
 }
 
-/// Which of two slots rules, by the first bytes of both, or the place that tells that neither does.
+/// Which of two slots rules, by the first bytes of both, or the place that shows that neither does.
 pub fn pick<'a>(
     first: Slot,
     mine: &'a [u8],
     second: Slot,
     its: &'a [u8],
 ) -> Result<Active<'a>, SlotFault>
+    // The first slot's bytes reach past its generation.
     requires whole { VERSION_PLACE ≤ length mine.now }
+    // The second slot has its gate.
     requires there { 0 < length its.now }
+    // Where the second slot's image begins is below 2^64.
     requires fits { second.start + IMAGE_PLACE < 2 ^ 64 }
+    // `Ok`: one of the two with its first bytes, and the other one.
     ensures are { IfOk result (λ r.
         IsOneOf first mine.now second its.now r.slot r.bytes.now r.other) }
+    // `Ok`: its gate is open.
     ensures open { IfOk result (λ r. slice_index r.bytes.now 0 ≡ OPEN) }
+    // `Ok`: over any bytes that begin both slots so, it rules; and whether the other's gate is
+    // open.
     ensures found { IfOk result (λ r. (c : List ℕ) → HasLeads first mine.now second its.now c →
         IsRuling r.slot.start r.other.start r.is_open c) }
+    // The place that shows it: the first slot, where no gate is open; the end of the bytes, where a
+    // generation is cut; behind the second gate, where both are equal.
     ensures fault { IfErr result (λ f. (c : List ℕ) → HasLeads first mine.now second its.now c →
         RefusesSlots first.start second.start c f) }
 {

@@ -20,12 +20,19 @@ use std::mem;
 impl<D: Disk> Slots<D> {
     /// Closes the other slot's gate, where that may be open.
     pub fn close_other(&mut self) -> Result<(), DiskFault>
+        // The next step is `Close`.
         requires step { self.old.step ≡ Close }
+        // No call of the journal has failed.
         requires live { self.old.journal.phase ≢ Failed }
+        // `Ok`: the next step is `SyncClose`; a fault: it stays.
         ensures step { OnOk result (self.new.step ≡ SyncClose)
             × OnErr result (self.new.step ≡ Close) }
+        // What is left of head and image stays.
         ensures left { self.new.left ≡ self.old.left }
+        // H: in any crash state at any moment the slot that ruled rules, with what the journal
+        // claims.
         ensures kept { KeepsSlots D.Disk self.old self.new (Keeps self.old) result }
+        // One call of the disk, a write, also at a fault; none where the gate counts as closed.
         ensures called { D.calls self.new.journal.disk
             ≡ D.calls self.old.journal.disk ++ (if self.old.may_open then Write ∷ [] else []) }
     {
@@ -41,12 +48,19 @@ impl<D: Disk> Slots<D> {
 
     /// Makes sure of the closed gate: from now on what lies behind it decides nothing.
     pub fn sync_close(&mut self) -> Result<(), DiskFault>
+        // The next step is `SyncClose`.
         requires step { self.old.step ≡ SyncClose }
+        // No call of the journal has failed.
         requires live { self.old.journal.phase ≢ Failed }
+        // `Ok`: the next step is `Part`; a fault: it stays.
         ensures step { OnOk result (self.new.step ≡ Part)
             × OnErr result (self.new.step ≡ SyncClose) }
+        // What is left of head and image stays.
         ensures left { self.new.left ≡ self.old.left }
+        // H: in any crash state at any moment the slot that ruled rules, with what the journal
+        // claims.
         ensures kept { KeepsSlots D.Disk self.old self.new (Keeps self.old) result }
+        // One call of the disk, a sync, also at a fault.
         ensures called { D.calls self.new.journal.disk
             ≡ D.calls self.old.journal.disk ++ Sync ∷ [] }
     {
@@ -55,18 +69,30 @@ impl<D: Disk> Slots<D> {
         Ok(())
     }
 
-    /// Writes the next part of the image behind the closed gate.
+    /// Writes the next 65,536 bytes (`PART`) of head and image behind the closed gate, or what is
+    /// left of them.
     pub fn write_part(&mut self) -> Result<(), DiskFault>
+        // The next step is `Part`.
         requires step { self.old.step ≡ Part }
+        // No call of the journal has failed.
         requires live { self.old.journal.phase ≢ Failed }
+        // `Ok`: the next step is `Part` while more is left than this part, then `Tail`; a fault: it
+        // stays.
         ensures step { OnOk result ((PART < self.old.left → self.new.step ≡ Part)
             × (self.old.left ≤ PART → self.new.step ≡ Tail))
             × OnErr result (self.new.step ≡ Part) }
+        // `Ok`: what is left of head and image falls by 65,536 bytes, or to none.
         ensures less { OnOk result (self.new.left ≡ self.old.left - PART) }
+        // H: `Ok`: these bytes of the text, and no others, were written at their place in the other
+        // slot.
         ensures written { D.honest self.old.journal.disk →
             OnOk result (WritesPart D.Disk self.old self.new) }
+        // A fault: what is left stays.
         ensures left { OnErr result (self.new.left ≡ self.old.left) }
+        // H: in any crash state at any moment the slot that ruled rules, with what the journal
+        // claims.
         ensures kept { KeepsSlots D.Disk self.old self.new (Keeps self.old) result }
+        // One call of the disk, a write, also at a fault.
         ensures called { D.calls self.new.journal.disk
             ≡ D.calls self.old.journal.disk ++ Write ∷ [] }
     {
@@ -84,14 +110,21 @@ impl<D: Disk> Slots<D> {
         Ok(())
     }
 
-    /// Writes what is left, the last of it a closed gate.
+    /// Writes the bodies behind the image, and a closed gate last.
     pub fn write_tail(&mut self) -> Result<(), DiskFault>
+        // The next step is `Tail`.
         requires step { self.old.step ≡ Tail }
+        // No batch is on its way, and no call of the journal has failed.
         requires live { self.old.journal.phase ≡ Idle }
+        // `Ok`: the next step is `SyncBody`; a fault: it stays.
         ensures step { OnOk result (self.new.step ≡ SyncBody)
             × OnErr result (self.new.step ≡ Tail) }
+        // What is left of head and image stays.
         ensures left { self.new.left ≡ self.old.left }
+        // H: in any crash state at any moment the slot that ruled rules, with what the journal
+        // claims.
         ensures kept { KeepsSlots D.Disk self.old self.new (Keeps self.old) result }
+        // One call of the disk, a write, also at a fault.
         ensures called { D.calls self.new.journal.disk
             ≡ D.calls self.old.journal.disk ++ Write ∷ [] }
     {
@@ -106,12 +139,19 @@ impl<D: Disk> Slots<D> {
 
     /// Makes sure of all that was written behind the closed gate.
     pub fn sync_parts(&mut self) -> Result<(), DiskFault>
+        // The next step is `SyncBody`.
         requires step { self.old.step ≡ SyncBody }
+        // No call of the journal has failed.
         requires live { self.old.journal.phase ≢ Failed }
+        // `Ok`: the next step is `Open`; a fault: it stays.
         ensures step { OnOk result (self.new.step ≡ Open)
             × OnErr result (self.new.step ≡ SyncBody) }
+        // What is left of head and image stays.
         ensures left { self.new.left ≡ self.old.left }
+        // H: in any crash state at any moment the slot that ruled rules, with what the journal
+        // claims.
         ensures kept { KeepsSlots D.Disk self.old self.new (Keeps self.old) result }
+        // One call of the disk, a sync, also at a fault.
         ensures called { D.calls self.new.journal.disk
             ≡ D.calls self.old.journal.disk ++ Sync ∷ [] }
     {
@@ -122,12 +162,19 @@ impl<D: Disk> Slots<D> {
 
     /// Opens the other slot's gate: from now on a crash leaves the one slot or the other to rule.
     pub fn open_other(&mut self) -> Result<(), DiskFault>
+        // The next step is `Open`.
         requires step { self.old.step ≡ Open }
+        // No call of the journal has failed.
         requires live { self.old.journal.phase ≢ Failed }
+        // `Ok`: the next step is `SyncOpen`; a fault: it stays.
         ensures step { OnOk result (self.new.step ≡ SyncOpen)
             × OnErr result (self.new.step ≡ Open) }
+        // What is left of head and image stays.
         ensures left { self.new.left ≡ self.old.left }
+        // H: in any crash state at any moment the slot that ruled rules with what it sealed, or the
+        // other one with the text that it is to hold.
         ensures kept { KeepsSlots D.Disk self.old self.new (KeepsEither self.old) result }
+        // One call of the disk, a write, also at a fault.
         ensures called { D.calls self.new.journal.disk
             ≡ D.calls self.old.journal.disk ++ Write ∷ [] }
     {
@@ -145,23 +192,36 @@ impl<D: Disk> Slots<D> {
 
     /// Makes sure of the open gate, and goes on in that slot.
     pub fn switch(&mut self) -> Result<(), DiskFault>
+        // The next step is `SyncOpen`.
         requires step { self.old.step ≡ SyncOpen }
+        // No call of the journal has failed.
         requires live { self.old.journal.phase ≢ Failed }
+        // `Ok`: the journal goes on in the other slot, behind the text that it was to hold; nothing
+        // is sealed and no body is on its way.
         ensures switched { OnOk result ((self.new.journal.slot ≡ self.old.other)
             × (self.new.journal.front ≡ self.old.text)
             × (self.new.journal.sealed ≡ [])
             × (self.new.journal.phase ≡ Idle)) }
+        // `Ok`: no call has begun to open a batch's gate.
         ensures begun { OnOk result (self.new.journal.begun ≡ false) }
+        // `Ok`: the slots change places, under the next generation and version 2; the gate of the
+        // one that ruled counts as open, and no compaction runs.
         ensures turned { OnOk result ((self.new.other ≡ self.old.journal.slot)
             × (self.new.generation ≡ self.old.generation + 1)
             × (self.new.version ≡ VERSION)
             × (self.new.may_open ≡ true)
             × (self.new.step ≡ Begin)) }
+        // A fault: the slots and the step stay, and the phase is `Failed`.
         ensures broken { OnErr result (SameSlots self.old self.new
             × (self.new.step ≡ SyncOpen)
             × (self.new.journal.phase ≡ Failed)) }
+        // What is left of head and image stays.
         ensures left { self.new.left ≡ self.old.left }
+        // H: in any crash state at any moment the slot that ruled rules with what it sealed, or the
+        // other one with the text that it is to hold. Text outside both slots stays sure. A fault
+        // exactly where the count of failures rose.
         ensures call { KeepsOutside D.Disk self.old self.new (KeepsEither self.old) result }
+        // One call of the disk, a sync, also at a fault.
         ensures called { D.calls self.new.journal.disk
             ≡ D.calls self.old.journal.disk ++ Sync ∷ [] }
     {

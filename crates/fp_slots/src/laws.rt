@@ -12,8 +12,8 @@ pub fn refusals_are_right()
     ensures { RefusesRightly }
 {}
 
-/// A batch sealed beside a compaction lengthens what the other slot is to hold, behind what was
-/// copied.
+/// A batch sealed beside a compaction lengthens what the other slot is to hold, and changes no byte
+/// that was copied.
 pub fn plan_goes_on()
     ensures { PlanGoesOn }
 {}

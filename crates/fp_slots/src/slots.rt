@@ -93,7 +93,7 @@ impl<D: Disk> Model for Slots<D> {
 }
 
 impl<D: Disk> Slots<D> {
-    /// Two slots, of which a journal fills the one that rules.
+    /// Two slots, of which a journal fills the one that rules. It makes no call of the disk.
     pub fn new(
         alloc: Global,
         journal: Journal<D>,
@@ -102,14 +102,22 @@ impl<D: Disk> Slots<D> {
         version: u8,
         may_open: bool,
     ) -> Slots<D>
+        // The two slots share no place.
         requires apart { (journal.slot.stop ≤ other.start) ⊎ (other.stop ≤ journal.slot.start) }
+        // Each has room for its gate and generation.
         requires wide { (other.start + VERSION_PLACE ≤ other.stop)
             × (journal.slot.start + VERSION_PLACE ≤ journal.slot.stop) }
+        // The journal's slot has that generation and that version.
         requires front { IsFrontOf version generation journal.front }
+        // The version is 1 or 2.
         requires known { IsVersion version }
+        // No call of the journal has failed.
         requires live { journal.phase ≢ Failed }
+        // H: in every crash state the other slot's gate is closed, or, where it may be open, its
+        // generation is smaller.
         requires beaten { D.honest journal.disk →
             IsBeaten may_open other.start generation (D.unsynced journal.disk) }
+        // They are as they were given, and no compaction runs.
         ensures same { (result.journal ≡ journal)
             × (result.other ≡ other)
             × (result.generation ≡ generation)
@@ -132,9 +140,10 @@ impl<D: Disk> Slots<D> {
         }
     }
 
-    /// The disk alone.
+    /// Gives the disk back.
     pub fn into_disk(self) -> D
         ensures disk { result ≡ self.journal.disk }
+        // H: what a crash leaves is as `step` says.
         ensures outcomes { EachCrash D.Disk result (Leaves self.step self) }
     {
         let Slots {
@@ -152,13 +161,19 @@ impl<D: Disk> Slots<D> {
         journal.into_disk()
     }
 
-    /// What a compaction does next, which says what a crash would leave now.
+    /// What a compaction does next, which says what a crash would leave now, also where a call
+    /// failed.
     pub fn step(&self) -> Step
         ensures step { result ≡ self.now.step }
+        // H: in each crash state the journal's slot rules, with what the journal claims; at `Open`
+        // and `SyncOpen` perhaps the other one, with the text that it is to hold.
         ensures outcomes { EachCrash D.Disk self.now.journal.disk (Leaves result self.now) }
+        // From `SyncBody` on no batch is on its way.
         ensures still { IsStill self.now.step self.now.journal.phase }
+        // The journal's slot has this generation and this version.
         ensures front { IsFrontOf self.now.version self.now.generation
             self.now.journal.front }
+        // The generation is below 2^64.
         ensures numbered { self.now.generation < 2 ^ 64 }
     {
         let _phase = self.journal.phase();
@@ -183,6 +198,7 @@ impl<D: Disk> Slots<D> {
     /// The version of the slot that rules.
     pub fn version(&self) -> u8
         ensures version { result ≡ self.now.version }
+        // It is 1 or 2.
         ensures known { IsVersion self.now.version }
     {
         let _ = &self.journal;
@@ -204,24 +220,35 @@ impl<D: Disk> Slots<D> {
     /// the next generation, by the version of all that is written. A body on its way is kept ready
     /// to go behind it. It makes no call of the disk; where memory runs out all stays as it was.
     pub fn begin(&mut self, alloc: Global, base: u64, image: &[u8]) -> Result<(), AllocError>
+        // No compaction runs.
         requires step { self.old.step ≡ Begin }
+        // No call of the journal has failed.
         requires live { self.old.journal.phase ≢ Failed }
+        // There is a generation behind this one.
         requires next { self.old.generation + 1 < 2 ^ 64 }
+        // The image has fewer than 2^32 bytes.
         requires short { length image.now < 2 ^ 32 }
+        // Head, image and a closed gate fit into the other slot.
         requires fits { self.old.other.start + IMAGE_PLACE + length image.now
             < self.old.other.stop }
+        // The slots stay as they are.
         ensures same { (self.new.journal ≡ self.old.journal)
             × (self.new.other ≡ self.old.other)
             × (self.new.generation ≡ self.old.generation)
             × (self.new.version ≡ self.old.version)
             × (self.new.may_open ≡ self.old.may_open) }
+        // `Ok`: the other slot is to hold the next generation, version 2, this base and this image;
+        // all of that but the gate's byte is left to be written.
         ensures text { OnOk result
             ((self.new.text ≡ head_text VERSION (self.old.generation + 1) base image.now)
             × (self.new.head ≡ IMAGE_PLACE + length image.now)
             × (self.new.left + 1 ≡ self.new.head)) }
+        // `Ok`: the bytes of a body on its way are kept ready to go behind it.
         ensures ready { OnOk result (IsOnWay self.old.journal.phase →
             self.new.coming ≡ with_gate self.old.journal.staged) }
+        // Memory alone fails, and changes nothing.
         ensures err { OnErr result (self.new ≡ self.old) }
+        // `Ok`: the next step is `Close`.
         ensures step { OnOk result (self.new.step ≡ Close) × OnErr result (self.new.step ≡ Begin) }
     {
         let next = self.generation + 1;
