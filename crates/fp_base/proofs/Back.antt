@@ -8,7 +8,8 @@ use Rattle.json.specs.Lex.{tokens}
 use Rattle.json.specs.Tree as tree
 use Rattle.json.specs.Tree.{json_tokens}
 use Rattle.json.proofs.Printed.Trees.{value-json_tokens}
-use Rattle.serde_json.specs.Data.{Data, null, boolean, number, string, array, object, Items, no_items, item, Members, no_members, member, depth, items_depth, members_depth}
+use Rattle.serde_json.specs.Data.{Data, null, boolean, number, string, array, object, Items, no_items, item, Members}
+use Rattle.serde_json.specs.Data.{no_members, member, depth, items_depth, members_depth}
 use Rattle.serde_json.specs.Read.{of_json, of_items}
 use Rattle.serde_json.specs.Written.{outline, items_outline, members_outline}
 use Rattle.fp_base.specs.Json.{json_of}
@@ -54,8 +55,10 @@ mutual
   depth-members (member k d ms) = ap₂ max (depth-outline d) (depth-members ms)
 
 -- a text that has the tokens of the data
-pub print-reads : (text : List ℕ) (d : Data) → tokens text ≡ json_tokens (outline d) → IsUtf8 text → IsOrdered d → is_whole d ≡ true → depth d ≤ 127 → json_of text ≡ Some d
+pub print-reads : (text : List ℕ) (d : Data) → tokens text ≡ json_tokens (outline d) → IsUtf8 text → IsOrdered d →
+    is_whole d ≡ true → depth d ≤ 127 → json_of text ≡ Some d
 print-reads text d spelt utf8 o w flat =
     let whole : json.value 127 (tokens text) ≡ Some (outline d, []) =
-    ap (json.value 127) (spelt ∙ sym (append-nil (json_tokens (outline d)))) ∙ value-json_tokens (outline d) 127 [] (omega (arith, depth-outline d)) in
+    ap (json.value 127) (spelt ∙ sym (append-nil (json_tokens (outline d)))) ∙
+    value-json_tokens (outline d) 127 [] (omega (arith, depth-outline d)) in
     json_of_read text d utf8 (ap (λ r. option_and_then of_json (option_and_then (λ q. json.if_last q.0 q.1) r)) whole ∙ read_back d o w)

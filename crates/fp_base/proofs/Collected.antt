@@ -1,5 +1,7 @@
 -- Maps made of a list of pairs at once.
-use Rattle.std.proofs.Common.{◌≡◌, ℕ, Global, String, string_bytes, nat_cmp, List, [], ◌∷◌, Bool, true, false, Option, None, Some, Ordering, Less, Equal, Greater, true≢false, ⊎_elim, refl, sym, ap, ap₂, subst, ◌∙◌}
+use Rattle.std.proofs.Common.{◌≡◌, ℕ, Global, String, string_bytes, nat_cmp, List, [], ◌∷◌, Bool, true, false, Option}
+use Rattle.std.proofs.Common.{None, Some, Ordering, Less, Equal, Greater, true≢false, ⊎_elim, refl, sym, ap, ap₂, subst}
+use Rattle.std.proofs.Common.{◌∙◌}
 use Rattle.std.specs.Prelude.{cond, is_some, unwrap_or}
 use Rattle.std.specs.BTreeMap.{BTreeMap, insert_entry, is_at, IsFromIterResult}
 use Rattle.std.specs.Cmp.{IsTotalOrder, eq_by_cmp_equiv, tied_itself}
@@ -56,41 +58,52 @@ module _ {K X : Type 0} {R : K → K → Ordering} (o : IsTotalOrder R) where
       absurd (some-none (at-first e es) (sym (same e.0) ∙ at-lower e.0 d ds s (o.antisymm e.0 d.0 ∙ ap ordering_reverse h)))
 
   at-behind : (q : K) (e : K × X) (es : List (K × X)) → IsStrictlySortedBy R (keys_of (e ∷ es)) → is_eq (R q e.0) ≡ true → at q es ≡ None
-  at-behind q e es sorted tied = lookup-none (is_at (R q)) es (none_past_head (eq_by_cmp_equiv o) q e es (IsDistinct-from_sorted R _ sorted) tied)
+  at-behind q e es sorted tied =
+      lookup-none (is_at (R q)) es (none_past_head (eq_by_cmp_equiv o) q e es (IsDistinct-from_sorted R _ sorted)
+      tied)
 
   module _ {B : Type 0} (f : K → B) (exact : (x y : K) → R x y ≡ Equal → f x ≡ f y) where
     -- pairs in order with the same at each key are the same pairs, as far as f tells keys apart
-    pub same-pairs : (ds es : List (K × X)) → IsStrictlySortedBy R (keys_of ds) → IsStrictlySortedBy R (keys_of es) → ((q : K) → at q ds ≡ at q es)
+    pub same-pairs : (ds es : List (K × X)) → IsStrictlySortedBy R (keys_of ds) → IsStrictlySortedBy R (keys_of es) →
+        ((q : K) → at q ds ≡ at q es)
         → map_keys f ds ≡ map_keys f es
     same-pairs [] [] s t same = refl
     same-pairs [] (e ∷ es) s t same = absurd (some-none (at-first e es) (sym (same e.0)))
     same-pairs (d ∷ ds) [] s t same = absurd (some-none (at-first d ds) (same d.0))
     same-pairs (d ∷ ds) (e ∷ es) s t same =
         let tie = firsts-tie d e ds es s t same (R d.0 e.0) refl in
-        let held : d.1 ≡ e.1 = ap (λ u. unwrap_or u d.1) (sym (at-first d ds) ∙ same d.0 ∙ lookup_head (is_at (R d.0)) e es (ap is_eq tie)) in
+        let held : d.1 ≡ e.1 = ap (λ u. unwrap_or u d.1)
+        (sym (at-first d ds) ∙ same d.0 ∙ lookup_head (is_at (R d.0)) e es (ap is_eq tie)) in
         let alike : (q : K) → is_eq (R q d.0) ≡ is_eq (R q e.0) = λ q. tied-alike o q d.0 e.0 tie in
         let rest : (q : K) → at q ds ≡ at q es =
         λ q. ⊎_elim
         (λ y. at-behind q d ds s y ∙ sym (at-behind q e es t (sym (alike q) ∙ y)))
         (λ n. sym (lookup_tail (is_at (R q)) d ds n) ∙ same q ∙ lookup_tail (is_at (R q)) e es (sym (alike q) ∙ n))
         (cases_Bool (is_eq (R q d.0))) in
-        ap₂ (λ k ps. k ∷ ps) (ap₂ (λ k x. (k, x)) (exact d.0 e.0 tie) held) (same-pairs ds es (sorted_tail R d.0 (keys_of ds) s) (sorted_tail R e.0 (keys_of es) t) rest)
+        ap₂ (λ k ps. k ∷ ps) (ap₂ (λ k x. (k, x)) (exact d.0 e.0 tie) held)
+        (same-pairs ds es (sorted_tail R d.0 (keys_of ds) s) (sorted_tail R e.0 (keys_of es) t) rest)
 
     -- where the pairs are in order, they are the map's
-    pub in-order : (xs : List (K × X)) (n : BTreeMap K X) → IsFromIterResult R xs n → IsStrictlySortedBy R (keys_of xs) → map_keys f n.entries ≡ map_keys f xs
+    pub in-order : (xs : List (K × X)) (n : BTreeMap K X) → IsFromIterResult R xs n →
+        IsStrictlySortedBy R (keys_of xs) → map_keys f n.entries ≡ map_keys f xs
     in-order xs n made sorted =
         same-pairs n.entries xs made.1 sorted
-        (λ q. made.0 q ∙ update_all_none (eq_by_cmp_equiv o) (eq_by_cmp R) (λ x y. refl) xs q (IsDistinct-from_sorted R (keys_of xs) sorted))
+        (λ q. made.0 q ∙ update_all_none (eq_by_cmp_equiv o) (eq_by_cmp R) (λ x y. refl) xs q
+        (IsDistinct-from_sorted R (keys_of xs) sorted))
 
   -- one more pair in order
-  at-insert_by : (q k : K) (v : X) (e : K × X) (es : List (K × X)) → at q (insert_entry R es k v) ≡ cond (is_eq (R k q)) (Some v) (at q es) → (r : Ordering) → R k e.0 ≡ r
-      → at q (match_ordering r ((k, v) ∷ e ∷ es) ((e.0, v) ∷ es) (e ∷ insert_entry R es k v)) ≡ cond (is_eq (R k q)) (Some v) (at q (e ∷ es))
+  at-insert_by : (q k : K) (v : X) (e : K × X) (es : List (K × X)) →
+      at q (insert_entry R es k v) ≡ cond (is_eq (R k q)) (Some v) (at q es) → (r : Ordering) → R k e.0 ≡ r
+      → at q (match_ordering r ((k, v) ∷ e ∷ es) ((e.0, v) ∷ es) (e ∷ insert_entry R es k v)) ≡ cond (is_eq (R k q))
+      (Some v) (at q (e ∷ es))
   at-insert_by q k v e es later Less h = ap (λ b. cond b (Some v) (at q (e ∷ es))) ((eq_by_cmp_equiv o).symm q k)
   at-insert_by q k v e es later Equal h =
-      cond-again (is_eq (R q e.0)) (Some v) (Some e.1) (at q es) ∙ ap (λ b. cond b (Some v) (at q (e ∷ es))) (sym (tied-alike o q k e.0 h) ∙ (eq_by_cmp_equiv o).symm q k)
+      cond-again (is_eq (R q e.0)) (Some v) (Some e.1) (at q es) ∙
+      ap (λ b. cond b (Some v) (at q (e ∷ es))) (sym (tied-alike o q k e.0 h) ∙ (eq_by_cmp_equiv o).symm q k)
   at-insert_by q k v e es later Greater h =
       ap (cond (is_eq (R q e.0)) (Some e.1)) later
-      ∙ cond-swap (is_eq (R q e.0)) (is_eq (R k q)) (Some e.1) (Some v) (at q es) (λ y z. true≢false (sym ((eq_by_cmp_equiv o).congr k q e.0 z ∙ y) ∙ ap is_eq h))
+      ∙ cond-swap (is_eq (R q e.0)) (is_eq (R k q)) (Some e.1) (Some v) (at q es)
+      (λ y z. true≢false (sym ((eq_by_cmp_equiv o).congr k q e.0 z ∙ y) ∙ ap is_eq h))
 
   at-insert : (q k : K) (v : X) (es : List (K × X)) → at q (insert_entry R es k v) ≡ cond (is_eq (R k q)) (Some v) (at q es)
   at-insert q k v [] = ap (λ b. cond b (Some v) None) ((eq_by_cmp_equiv o).symm q k)
@@ -133,9 +146,11 @@ values-named [] = refl
 values-named (e ∷ es) = ap (member (string_bytes e.0) (view e.1)) (values-named es)
 
 -- a value's members, from a list of them in order
-pub collected : (xs : List values.Entry) (n : BTreeMap (String Global) Value) → IsFromIterResult string_cmp xs n → IsSorted (members_view xs) → members_view n.entries ≡ members_view xs
+pub collected : (xs : List values.Entry) (n : BTreeMap (String Global) Value) → IsFromIterResult string_cmp xs n →
+    IsSorted (members_view xs) → members_view n.entries ≡ members_view xs
 collected xs n made sorted =
     values-named n.entries
     ∙ ap (named text view)
-    (in-order string_cmp_total text (λ x y h. exact_bytes (text x) (text y) h) xs n made (keys-sorted text view xs (subst IsSorted (values-named xs) sorted)))
+    (in-order string_cmp_total text (λ x y h. exact_bytes (text x) (text y) h) xs n made
+    (keys-sorted text view xs (subst IsSorted (values-named xs) sorted)))
     ∙ sym (values-named xs)

@@ -1,5 +1,6 @@
 -- Members gathered in order, with those behind them that wait.
-use Rattle.std.proofs.Common.{◌≡◌, List, ℕ, [], ◌∷◌, ◌++◌, length, reverse, Less, nat_cmp, refl, sym, ap, subst, ◌∙◌, arith, append_assoc, append-nil}
+use Rattle.std.proofs.Common.{◌≡◌, List, ℕ, [], ◌∷◌, ◌++◌, length, reverse, Less, nat_cmp, refl, sym, ap, subst, ◌∙◌}
+use Rattle.std.proofs.Common.{arith, append_assoc, append-nil}
 use Rattle.std.specs.Borrow.{Bor}
 use Rattle.std.specs.BTreeMap.{insert_entry}
 use Rattle.std.specs.Cmp.{IsTotalOrder}
@@ -43,7 +44,8 @@ laid-behind : (done xs : List Entry) → IsSorted (tree_members (done ++ xs)) �
 laid-behind done [] h = ap tree_members (sym (append-nil done))
 laid-behind done (x ∷ xs) h =
     let same = append_assoc done (x ∷ []) xs in
-    ap (λ ms. laid ms xs) (put-last done x xs h) ∙ laid-behind (done ++ x ∷ []) xs (subst (λ ys. IsSorted (tree_members ys)) (sym same) h) ∙ ap tree_members same
+    ap (λ ms. laid ms xs) (put-last done x xs h) ∙
+    laid-behind (done ++ x ∷ []) xs (subst (λ ys. IsSorted (tree_members ys)) (sym same) h) ∙ ap tree_members same
 
 pub sorted-laid : (ms : Members) (es : List Entry) → IsSorted ms → IsSorted (laid ms es)
 sorted-laid ms [] h = h
@@ -54,8 +56,10 @@ members-inserted es [] = refl
 members-inserted es (x ∷ xs) = members-inserted (insert_entry entry_cmp es x.0 x.1) xs ∙ ap (λ ms. laid ms xs) (members-insert es x.0 x.1)
 
 -- those in order and those that came behind them, put in turn among none
-pub laid_together : (ordered waiting all : List Entry) → IsSorted (tree_members ordered) → all ≡ ordered ++ waiting → laid no_members all ≡ laid (tree_members ordered) waiting
-laid_together ordered waiting all sorted is = ap (laid no_members) is ∙ laid-append no_members ordered waiting ∙ ap (λ ms. laid ms waiting) (laid-behind [] ordered sorted)
+pub laid_together : (ordered waiting all : List Entry) → IsSorted (tree_members ordered) → all ≡ ordered ++ waiting →
+    laid no_members all ≡ laid (tree_members ordered) waiting
+laid_together ordered waiting all sorted is = ap (laid no_members) is ∙ laid-append no_members ordered waiting ∙
+    ap (λ ms. laid ms waiting) (laid-behind [] ordered sorted)
 
 inserted-sorted : (xs : List Entry) → IsStrictlySortedBy entry_cmp (keys_of (inserted names_total [] xs))
 inserted-sorted xs =
@@ -64,7 +68,8 @@ inserted-sorted xs =
     keys-sorted name tree_view es (subst IsSorted (trees-named es) (subst IsSorted (sym made) (sorted-laid no_members xs tt)))
 
 -- what a stable sort by the names leaves makes the same members
-pub laid-sorted : (xs ys : List Entry) → length ys ≡ length xs → IsStableBy (λ (p : Entry) (q : Entry). is_lt (entry_cmp p.0 q.0)) xs ys → laid no_members ys ≡ laid no_members xs
+pub laid-sorted : (xs ys : List Entry) → length ys ≡ length xs →
+    IsStableBy (λ (p : Entry) (q : Entry). is_lt (entry_cmp p.0 q.0)) xs ys → laid no_members ys ≡ laid no_members xs
 laid-sorted xs ys len stable =
     let one = inserted names_total [] ys in
     let other = inserted names_total [] xs in
@@ -77,11 +82,13 @@ laid-sorted xs ys len stable =
     ∙ members-inserted [] xs
 
 -- one more at the end of those that wait
-pub laid-last : (ms : Members) (es new : List Entry) (m : Entry) → new ≡ es ++ m ∷ [] → laid ms new ≡ put m.0.now (tree_view m.1) (laid ms es)
+pub laid-last : (ms : Members) (es new : List Entry) (m : Entry) → new ≡ es ++ m ∷ [] →
+    laid ms new ≡ put m.0.now (tree_view m.1) (laid ms es)
 laid-last ms es new m is = ap (laid ms) is ∙ laid-append ms es (m ∷ [])
 
 -- one more at the end of those in order
-pub put-at_end : (ms new : List Entry) (m : Entry) → AreBefore m.0.now ms → new ≡ ms ++ m ∷ [] → tree_members new ≡ put m.0.now (tree_view m.1) (tree_members ms)
+pub put-at_end : (ms new : List Entry) (m : Entry) → AreBefore m.0.now ms → new ≡ ms ++ m ∷ [] →
+    tree_members new ≡ put m.0.now (tree_view m.1) (tree_members ms)
 put-at_end ms new m before is =
     ap tree_members is
     ∙ sym (put-behind m.0.now (tree_view m.1) ms [] (m ∷ []) before refl)
@@ -101,12 +108,15 @@ reverse-more es m = reverse-append es (m ∷ [])
 turned-on : (e : Entry) (es done : List Entry) → reverse (e ∷ es) ++ done ≡ reverse es ++ e ∷ done
 turned-on e es done = ap (λ xs. xs ++ done) (reverse-append (e ∷ []) es) ∙ append_assoc (reverse es) (e ∷ []) done
 
-put-below : (e : Entry) (done : List Entry) → IsBelow e.0.now (tree_members done) → put e.0.now (tree_view e.1) (tree_members done) ≡ tree_members (e ∷ done)
+put-below : (e : Entry) (done : List Entry) → IsBelow e.0.now (tree_members done) →
+    put e.0.now (tree_view e.1) (tree_members done) ≡ tree_members (e ∷ done)
 put-below e [] h = refl
 put-below e (x ∷ xs) h =
-    ap (λ o. match_ordering o (tree_members (e ∷ x ∷ xs)) (member x.0.now (tree_view e.1) (tree_members xs)) (member x.0.now (tree_view x.1) (put e.0.now (tree_view e.1) (tree_members xs)))) h.0
+    ap (λ o. match_ordering o (tree_members (e ∷ x ∷ xs)) (member x.0.now (tree_view e.1) (tree_members xs))
+    (member x.0.now (tree_view x.1) (put e.0.now (tree_view e.1) (tree_members xs)))) h.0
 
-falling-laid : (done es : List Entry) → IsSorted (tree_members (reverse es ++ done)) → laid (tree_members done) es ≡ tree_members (reverse es ++ done)
+falling-laid : (done es : List Entry) → IsSorted (tree_members (reverse es ++ done)) →
+    laid (tree_members done) es ≡ tree_members (reverse es ++ done)
 falling-laid done [] h = refl
 falling-laid done (e ∷ es) h =
     let same = turned-on e es done in
@@ -121,11 +131,13 @@ turned-laid es h =
     sym (falling-laid [] es (subst (λ ys. IsSorted (tree_members ys)) (sym same) h) ∙ ap tree_members same)
 
 -- one more below them
-pub falling-more : (es new : List Entry) (m : Entry) → IsFalling es → IsBelow m.0.now (tree_members (reverse es)) → new ≡ es ++ m ∷ [] → IsFalling new
+pub falling-more : (es new : List Entry) (m : Entry) → IsFalling es → IsBelow m.0.now (tree_members (reverse es)) →
+    new ≡ es ++ m ∷ [] → IsFalling new
 falling-more es new m h below is = subst (λ ys. IsSorted (tree_members ys)) (sym (ap reverse is ∙ reverse-more es m)) (below, h)
 
 -- below the last of them
-pub below-last : (name : List ℕ) (ms front : List Entry) (m : Entry) → IsFalling ms → ms ≡ front ++ m ∷ [] → slice_cmp nat_cmp name m.0.now ≡ Less → IsBelow name (tree_members (reverse ms))
+pub below-last : (name : List ℕ) (ms front : List Entry) (m : Entry) → IsFalling ms → ms ≡ front ++ m ∷ [] →
+    slice_cmp nat_cmp name m.0.now ≡ Less → IsBelow name (tree_members (reverse ms))
 below-last name ms front m h is less =
     let same = ap reverse is ∙ reverse-more front m in
     let sorted = subst (λ ys. IsSorted (tree_members ys)) same h in

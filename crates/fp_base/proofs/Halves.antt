@@ -1,5 +1,6 @@
 -- A name's place among members in ascending order of their names.
-use Rattle.std.proofs.Common.{◌≡◌, ◌<◌, ℕ, zero, suc, List, [], ◌∷◌, ◌++◌, length, drop, true, false, None, Ordering, Less, Equal, Greater, nat_cmp, bytes_eq, true≢false, refl, sym, ap, ◌∙◌, arith}
+use Rattle.std.proofs.Common.{◌≡◌, ◌<◌, ℕ, zero, suc, List, [], ◌∷◌, ◌++◌, length, drop, true, false, None, Ordering}
+use Rattle.std.proofs.Common.{Less, Equal, Greater, nat_cmp, bytes_eq, true≢false, refl, sym, ap, ◌∙◌, arith}
 use Rattle.std.specs.Ordering.{is_lt, match_ordering}
 use Rattle.std.specs.Cmp.Lexicographic.{slice_cmp}
 use Rattle.std.proofs.lemmas.Cmp.{nat_list_cmp_total}
@@ -23,11 +24,14 @@ less Equal h = absurd (true≢false (sym h))
 less Greater h = absurd (true≢false (sym h))
 
 -- where one comes before the name, so do all in front of it
-pub before-up_to : (name : List ℕ) (front : List Entry) (m : Entry) (behind : List Entry) → IsSorted (tree_members (front ++ m ∷ behind)) → cmp m.0.now name ≡ Less
+pub before-up_to : (name : List ℕ) (front : List Entry) (m : Entry) (behind : List Entry) →
+    IsSorted (tree_members (front ++ m ∷ behind)) → cmp m.0.now name ≡ Less
     → AreBefore name (front ++ m ∷ [])
 before-up_to name [] m behind h less = (less, tt)
-before-up_to name (x ∷ front) m behind h less =
-    (nat_list_cmp_total.trans x.0.now m.0.now name (below-middle x.0.now front m behind h.0) less, before-up_to name front m behind h.1 less)
+before-up_to name (x ∷ front) m behind h less = (
+  nat_list_cmp_total.trans x.0.now m.0.now name (below-middle x.0.now front m behind h.0) less,
+  before-up_to name front m behind h.1 less,
+)
 
 pub sorted-behind : (front behind : List Entry) → IsSorted (tree_members (front ++ behind)) → IsSorted (tree_members behind)
 sorted-behind [] behind h = h
@@ -49,10 +53,12 @@ apart-less : {o : Ordering} → o ≡ Less → o ≡ Equal → ⊥
 apart-less p q = cc
 
 -- what is looked up isn't in front
-pub get-behind : (name : List ℕ) (front behind : List Entry) → AreBefore name front → get_member name (tree_members (front ++ behind)) ≡ get_member name (tree_members behind)
+pub get-behind : (name : List ℕ) (front behind : List Entry) → AreBefore name front →
+    get_member name (tree_members (front ++ behind)) ≡ get_member name (tree_members behind)
 get-behind name [] behind h = refl
 get-behind name (x ∷ front) behind h =
-    later-by (cmp name x.0.now) (get_member name (tree_members (front ++ behind))) (tree_view x.1) (apart (turned x.0.now name Less h.0)) ∙ get-behind name front behind h.1
+    later-by (cmp name x.0.now) (get_member name (tree_members (front ++ behind))) (tree_view x.1)
+    (apart (turned x.0.now name Less h.0)) ∙ get-behind name front behind h.1
 
 none-below : (name : List ℕ) (ms : Members) → IsBelow name ms → get_member name ms ≡ None
 none-below name no_members h = refl
@@ -65,7 +71,8 @@ comes-before name k Equal e not_less other = absurd (true≢false (sym ((bytes_e
 comes-before name k Greater e not_less other = turned k name Greater e
 
 -- the first that doesn't come before it has another name, so none has its name
-pub get-none : (name : List ℕ) (behind : List Entry) → IsSorted (tree_members behind) → IsNotBefore name behind → first_is_named name behind ≡ false
+pub get-none : (name : List ℕ) (behind : List Entry) → IsSorted (tree_members behind) → IsNotBefore name behind →
+    first_is_named name behind ≡ false
     → get_member name (tree_members behind) ≡ None
 get-none name [] h p other = refl
 get-none name (m ∷ behind) h p other =
@@ -79,7 +86,8 @@ put-by : (k l : List ℕ) (d e : Data) (ms : Members) (o : Ordering) → cmp k l
 put-by k l d e ms o h = ap (λ p. match_ordering p (member k d (member l e ms)) (member l d ms) (member l e (put k d ms))) h
 
 -- what is put goes behind those that come before it
-pub put-behind : (name : List ℕ) (d : Data) (front behind new : List Entry) → AreBefore name front → put name d (tree_members behind) ≡ tree_members new
+pub put-behind : (name : List ℕ) (d : Data) (front behind new : List Entry) → AreBefore name front →
+    put name d (tree_members behind) ≡ tree_members new
     → put name d (tree_members (front ++ behind)) ≡ tree_members (front ++ new)
 put-behind name d [] behind new h is = is
 put-behind name d (x ∷ front) behind new h is =
@@ -87,12 +95,15 @@ put-behind name d (x ∷ front) behind new h is =
     ∙ ap (member x.0.now (tree_view x.1)) (put-behind name d front behind new h.1 is)
 
 -- in the place of the one of its name
-pub put-there : (m : Entry) (t : Tree) (name : List ℕ) (behind : List Entry) → m.0.now ≡ name → put name (tree_view t) (tree_members (m ∷ behind)) ≡ tree_members ((m.0, t) ∷ behind)
-put-there m t name behind same = put-by name m.0.now (tree_view t) (tree_view m.1) (tree_members behind) Equal (cmp-same name m.0.now (sym same))
+pub put-there : (m : Entry) (t : Tree) (name : List ℕ) (behind : List Entry) → m.0.now ≡ name →
+    put name (tree_view t) (tree_members (m ∷ behind)) ≡ tree_members ((m.0, t) ∷ behind)
+put-there m t name behind same =
+    put-by name m.0.now (tree_view t) (tree_view m.1) (tree_members behind) Equal (cmp-same name m.0.now (sym same))
 
 -- in front of the first that comes behind it
 pub put-first : (m : Entry) (behind : List Entry) → IsNotBefore m.0.now behind → first_is_named m.0.now behind ≡ false
     → put m.0.now (tree_view m.1) (tree_members behind) ≡ tree_members (m ∷ behind)
 put-first m [] p other = refl
 put-first m (n ∷ behind) p other =
-    put-by m.0.now n.0.now (tree_view m.1) (tree_view n.1) (tree_members behind) Less (comes-before m.0.now n.0.now (cmp n.0.now m.0.now) refl p other)
+    put-by m.0.now n.0.now (tree_view m.1) (tree_view n.1) (tree_members behind) Less
+    (comes-before m.0.now n.0.now (cmp n.0.now m.0.now) refl p other)

@@ -7,9 +7,11 @@ use Rattle.serde_json.specs.Data.{Data, null, boolean, number, string, array, ob
 use Rattle.serde_json.specs.Find.{get, get_member}
 use Rattle.fp_base.specs.Ordered.{IsOrdered, MembersAreOrdered}
 
-module _ (P : Data → Type 0) (All : Members → Type 0) (parts : (k : List ℕ) (d : Data) (ms : Members) → All (member k d ms) → P d × All ms) where
+module _ (P : Data → Type 0) (All : Members → Type 0)
+    (parts : (k : List ℕ) (d : Data) (ms : Members) → All (member k d ms) → P d × All ms) where
   -- what is found is this member or one of the rest
-  found : (o : Ordering) (rest : Option Data) (d e : Data) → (rest ≡ Some e → P e) → P d → match_ordering o rest (Some d) rest ≡ Some e → P e
+  found : (o : Ordering) (rest : Option Data) (d e : Data) → (rest ≡ Some e → P e) → P d →
+      match_ordering o rest (Some d) rest ≡ Some e → P e
   found Less rest d e later here h = later h
   found Equal rest d e later here h = let same : d ≡ e = ap (λ o. unwrap_or o d) h in rw (← same) here
   found Greater rest d e later here h = later h

@@ -15,7 +15,8 @@ Appends-more (Some a) (Some b) None xs ys p q = absurd q
 Appends-more (Some a) (Some b) (Some c) xs ys p q = q ∙ ap (λ l. l ++ ys) p ∙ append_assoc a xs ys
 
 -- a reader whose bytes are known has what it gave in front of what is left
-pub Consumes-some : (o n : Option (List ℕ)) (rest bs : List ℕ) → o ≡ Some rest → Consumes o n bs → (ys : List ℕ) × (n ≡ Some ys) × (rest ≡ bs ++ ys)
+pub Consumes-some : (o n : Option (List ℕ)) (rest bs : List ℕ) → o ≡ Some rest → Consumes o n bs → (ys : List ℕ) ×
+    (n ≡ Some ys) × (rest ≡ bs ++ ys)
 Consumes-some o n rest bs e h = consumed n (subst (λ p. Consumes p n bs) e h)
   where
     consumed : (n : Option (List ℕ)) → Consumes (Some rest) n bs → (ys : List ℕ) × (n ≡ Some ys) × (rest ≡ bs ++ ys)

@@ -1,5 +1,6 @@
 -- Members looked up by their names.
-use Rattle.std.proofs.Common.{◌≡◌, ℕ, List, true, false, Option, Some, Ordering, Less, Equal, Greater, nat_cmp, bytes_eq, true≢false, refl, sym, ap, ◌∙◌}
+use Rattle.std.proofs.Common.{◌≡◌, ℕ, List, true, false, Option, Some, Ordering, Less, Equal, Greater, nat_cmp}
+use Rattle.std.proofs.Common.{bytes_eq, true≢false, refl, sym, ap, ◌∙◌}
 use Rattle.std.specs.Ordering.{is_eq, match_ordering}
 use Rattle.std.specs.Cmp.{Equal-is}
 use Rattle.std.specs.Cmp.Lexicographic.{slice_cmp}
@@ -26,9 +27,11 @@ same-cmp name k h = (bytes_eq-Decides name k).0 (sym (is_eq-slice_cmp name k) �
 
 -- the first member has the name
 pub found-here : (name k : List ℕ) (d : Data) (ms : Members) → bytes_eq k name ≡ true → get_member name (member k d ms) ≡ Some d
-found-here name k d ms h = ap (λ o. match_ordering o (get_member name ms) (Some d) (get_member name ms)) (cmp-same name k (sym ((bytes_eq-Decides k name).0 h)))
+found-here name k d ms h = ap (λ o. match_ordering o (get_member name ms) (Some d) (get_member name ms))
+    (cmp-same name k (sym ((bytes_eq-Decides k name).0 h)))
 
 -- the first member has another name
-pub found-later : (name k : List ℕ) (d : Data) (ms : Members) → bytes_eq k name ≡ false → get_member name (member k d ms) ≡ get_member name ms
+pub found-later : (name k : List ℕ) (d : Data) (ms : Members) → bytes_eq k name ≡ false →
+    get_member name (member k d ms) ≡ get_member name ms
 found-later name k d ms h =
     later-by (cmp name k) (get_member name ms) d (λ e. true≢false (sym ((bytes_eq-Decides k name).1 (sym (same-cmp name k e))) ∙ h))

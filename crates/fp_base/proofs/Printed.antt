@@ -1,5 +1,6 @@
 -- What is put of data is text, and is read as them.
-use Rattle.std.proofs.Common.{◌≡◌, ◌≤◌, ℕ, List, [], ◌∷◌, ◌++◌, Bool, true, false, Some, ℤ, pos, None, decimal, refl, sym, ap, subst, ◌∙◌, append_assoc}
+use Rattle.std.proofs.Common.{◌≡◌, ◌≤◌, ℕ, List, [], ◌∷◌, ◌++◌, Bool, true, false, Some, ℤ, pos, None, decimal, refl}
+use Rattle.std.proofs.Common.{sym, ap, subst, ◌∙◌, append_assoc}
 use lib.Signed.{mag}
 use Rattle.std.specs.Fmt.{signed_decimal}
 use Rattle.std.specs.Prelude.{◌^◌, ◌<◌, if◌then◌else◌, nat_lt, unwrap_or}
@@ -25,14 +26,17 @@ use Rattle.fp_base.proofs.Back.{print-reads}
 
 -- ---- behind what is there
 
-pub behind_comma : (old one two comma text rest : List ℕ) → one ≡ old ++ comma → two ≡ one ++ text → two ++ rest ≡ old ++ (comma ++ (text ++ rest))
+pub behind_comma : (old one two comma text rest : List ℕ) → one ≡ old ++ comma → two ≡ one ++ text →
+    two ++ rest ≡ old ++ (comma ++ (text ++ rest))
 behind_comma old one two comma text rest p q =
     ap (λ xs. xs ++ rest) (q ∙ ap (λ xs. xs ++ text) p) ∙ append_assoc (old ++ comma) text rest ∙ append_assoc old comma (text ++ rest)
 
-pub behind_name : (old one two comma name text rest : List ℕ) → one ≡ old ++ (comma ++ (name ++ 58 ∷ [])) → two ≡ one ++ text → two ++ rest ≡ old ++ (comma ++ (name ++ 58 ∷ (text ++ rest)))
+pub behind_name : (old one two comma name text rest : List ℕ) → one ≡ old ++ (comma ++ (name ++ 58 ∷ [])) →
+    two ≡ one ++ text → two ++ rest ≡ old ++ (comma ++ (name ++ 58 ∷ (text ++ rest)))
 behind_name old one two comma name text rest p q =
     behind_comma old one two (comma ++ (name ++ 58 ∷ [])) text rest p q
-    ∙ ap (λ xs. old ++ xs) (append_assoc comma (name ++ 58 ∷ []) (text ++ rest) ∙ ap (λ xs. comma ++ xs) (append_assoc name (58 ∷ []) (text ++ rest)))
+    ∙ ap (λ xs. old ++ xs) (append_assoc comma (name ++ 58 ∷ []) (text ++ rest) ∙
+    ap (λ xs. comma ++ xs) (append_assoc name (58 ∷ []) (text ++ rest)))
 
 -- ---- printed
 
@@ -56,9 +60,13 @@ pub no_members_printed : (later : Bool) → AreMembersPrinted later no_members
 no_members_printed later = (IsUtf8-are_ascii (125 ∷ []) refl, tt)
 
 pub item_printed : (later : Bool) (d : Data) (ds : Items) → IsPrinted d → AreItemsPrinted true ds → AreItemsPrinted later (item d ds)
-item_printed later d ds h rest = (IsUtf8-append (comma_if later) _ (comma later) (IsUtf8-append (compact_text d) (items_text true ds) h.0 rest.0), (h.1, rest.1))
+item_printed later d ds h rest = (
+  IsUtf8-append (comma_if later) _ (comma later) (IsUtf8-append (compact_text d) (items_text true ds) h.0 rest.0),
+  (h.1, rest.1),
+)
 
-pub member_printed : (later : Bool) (k : List ℕ) (d : Data) (ms : Members) → IsUtf8 (quoted k) → IsPrinted d → AreMembersPrinted true ms → AreMembersPrinted later (member k d ms)
+pub member_printed : (later : Bool) (k : List ℕ) (d : Data) (ms : Members) → IsUtf8 (quoted k) → IsPrinted d →
+    AreMembersPrinted true ms → AreMembersPrinted later (member k d ms)
 member_printed later k d ms name h rest = (
   IsUtf8-append (comma_if later) _ (comma later)
       (IsUtf8-append (quoted k) _ name (colon_behind _ (IsUtf8-append (compact_text d) (members_text true ms) h.0 rest.0))),
@@ -69,7 +77,8 @@ member_printed later k d ms name h rest = (
 pub reads_back : (d : Data) → IsPrinted d → IsOrdered d → is_whole d ≡ true → depth d ≤ 127 → json_of (compact_text d) ≡ Some d
 reads_back d printed o w flat =
     print-reads (compact_text d) d
-    (ap tokens (sym (print-outline d)) ∙ tokens-print (json_tokens (outline d)) (ArePrintable-json_tokens (outline d) printed.1)) printed.0 o w flat
+    (ap tokens (sym (print-outline d)) ∙
+    tokens-print (json_tokens (outline d)) (ArePrintable-json_tokens (outline d) printed.1)) printed.0 o w flat
 
 -- the text of a whole number is that of its integer
 number_is : (n : Num) (z : ℤ) → as_i64 n ≡ Some z → number_text n ≡ signed_decimal z

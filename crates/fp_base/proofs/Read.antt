@@ -23,7 +23,8 @@ items_push : (ts : List Tree) (t : Tree) (rest : Items) → items_before ts (ite
 items_push [] t rest = refl
 items_push (u ∷ ts) t rest = ap (item (tree_view u)) (items_push ts t rest)
 
-pub one_more_item : (ts : List Tree) (t : Tree) (r : Option (Items × List Token)) → parse_map (items_before ts) (parse_map (item (tree_view t)) r) ≡ parse_map (items_before (ts ++ t ∷ [])) r
+pub one_more_item : (ts : List Tree) (t : Tree) (r : Option (Items × List Token)) →
+    parse_map (items_before ts) (parse_map (item (tree_view t)) r) ≡ parse_map (items_before (ts ++ t ∷ [])) r
 one_more_item ts t None = refl
 one_more_item ts t (Some p) = ap (λ ds. Some (ds, p.1)) (items_push ts t p.0)
 
@@ -36,6 +37,7 @@ none_before (Some p) = refl
 pub ordered-put : (k : List ℕ) (d : Data) (ms : Members) → IsOrdered d → MembersAreOrdered ms → MembersAreOrdered (put k d ms)
 ordered-put k d no_members o h = (o, tt)
 ordered-put k d (member l e ms) o h =
-    by-order MembersAreOrdered (slice_cmp nat_cmp k l) (member k d (member l e ms)) (member l d ms) (member l e (put k d ms)) (o, h) (o, h.1) (h.0, ordered-put k d ms o h.1)
+    by-order MembersAreOrdered (slice_cmp nat_cmp k l) (member k d (member l e ms)) (member l d ms)
+    (member l e (put k d ms)) (o, h) (o, h.1) (h.0, ordered-put k d ms o h.1)
 
 pub ruleset items_read = (none_before, items_before-no_items)

@@ -28,7 +28,8 @@ by-order P Greater a b c p q r = r
 below-put : (k l : List ℕ) (d : Data) (ms : Members) → cmp k l ≡ Less → IsBelow k ms → IsBelow k (put l d ms)
 below-put k l d no_members h p = (h, tt)
 below-put k l d (member m e ms) h p =
-    by-order (IsBelow k) (cmp l m) (member l d (member m e ms)) (member m d ms) (member m e (put l d ms)) (h, p) p (p.0, below-put k l d ms h p.1)
+    by-order (IsBelow k) (cmp l m) (member l d (member m e ms)) (member m d ms) (member m e (put l d ms)) (h, p) p
+    (p.0, below-put k l d ms h p.1)
 
 sorted-match : (k l : List ℕ) (d e : Data) (ms : Members) (o : Ordering) → cmp k l ≡ o → IsSorted (member l e ms) → IsSorted (put k d ms)
     → IsSorted (match_ordering o (member k d (member l e ms)) (member l d ms) (member l e (put k d ms)))
@@ -60,7 +61,8 @@ abbrev pub append : Members → Members → Members
 append no_members more = more
 append (member k d ms) more = member k d (append ms more)
 
-pub append-one : (found : Members) (k : List ℕ) (d : Data) (ms : Members) → append (append found (member k d no_members)) ms ≡ append found (member k d ms)
+pub append-one : (found : Members) (k : List ℕ) (d : Data) (ms : Members) →
+    append (append found (member k d no_members)) ms ≡ append found (member k d ms)
 append-one no_members k d ms = refl
 append-one (member l e found) k d ms = ap (member l e) (append-one found k d ms)
 
@@ -70,11 +72,13 @@ put-after k d (member l e found) h =
     ap (λ o. match_ordering o (member k d (member l e found)) (member l d found) (member l e (put k d found))) h.0
     ∙ ap (member l e) (put-after k d found h.1)
 
-after-append : (k : List ℕ) (found : Members) (l : List ℕ) (d : Data) → IsAfter k found → cmp k l ≡ Greater → IsAfter k (append found (member l d no_members))
+after-append : (k : List ℕ) (found : Members) (l : List ℕ) (d : Data) → IsAfter k found → cmp k l ≡ Greater →
+    IsAfter k (append found (member l d no_members))
 after-append k no_members l d p h = (h, tt)
 after-append k (member m e found) l d p h = (p.0, after-append k found l d p.1 h)
 
-pub all_after-append : (found ms : Members) (l : List ℕ) (d : Data) → AreAfter found ms → IsBelow l ms → AreAfter (append found (member l d no_members)) ms
+pub all_after-append : (found ms : Members) (l : List ℕ) (d : Data) → AreAfter found ms → IsBelow l ms →
+    AreAfter (append found (member l d no_members)) ms
 all_after-append found no_members l d p h = tt
 all_after-append found (member k e ms) l d p h = (after-append k found l d p.0 (turned l k Less h.0), all_after-append found ms l d p.1 h.1)
 
@@ -86,7 +90,8 @@ pub append-none : (found : Members) → append found no_members ≡ found
 append-none no_members = refl
 append-none (member k d ms) = ap (member k d) (append-none ms)
 
-read_back : (ms found : Members) → IsSorted ms → AreBack ms → AreAfter found ms → of_members (members_outline ms) found ≡ Some (append found ms)
+read_back : (ms found : Members) → IsSorted ms → AreBack ms → AreAfter found ms →
+    of_members (members_outline ms) found ≡ Some (append found ms)
 read_back no_members found p q r = ap Some (sym (append-none found))
 read_back (member k d ms) found p q r =
     rw q.0

@@ -1,5 +1,6 @@
 -- A stable sort of pairs by their keys leaves the last pair of each key.
-use Rattle.std.proofs.Common.{◌≡◌, List, [], ◌∷◌, length, Bool, true, false, Option, None, Some, Ordering, Less, Equal, Greater, refl, sym, ap, ◌∙◌, ⊎_elim, arith}
+use Rattle.std.proofs.Common.{◌≡◌, List, [], ◌∷◌, length, Bool, true, false, Option, None, Some, Ordering, Less, Equal}
+use Rattle.std.proofs.Common.{Greater, refl, sym, ap, ◌∙◌, ⊎_elim, arith}
 use Rattle.std.specs.Prelude.{◌&&◌, cond, not}
 use Rattle.std.specs.Cmp.{IsTotalOrder}
 use Rattle.std.specs.List.{filter}
@@ -31,13 +32,16 @@ module _ {K X : Type 0} {R : K → K → Ordering} (o : IsTotalOrder R) where
     tied p = ap (λ r. not (is_lt r) && not (is_lt (R p.0 k))) (o.antisymm k p.0) ∙ tie (R p.0 k)
 
     -- those of a key alone decide what stands at it
-    decided : (f g : K → Option X) → f k ≡ g k → (xs : List (K × X)) → update_all (eq_by_cmp R) f xs k ≡ update_all (eq_by_cmp R) g (filter (ties before (k, v)) xs) k
+    decided : (f g : K → Option X) → f k ≡ g k → (xs : List (K × X)) →
+        update_all (eq_by_cmp R) f xs k ≡ update_all (eq_by_cmp R) g (filter (ties before (k, v)) xs) k
     decided f g h [] = h
     decided f g h (p ∷ xs) =
         let rest = filter (ties before (k, v)) xs in
         ⊎_elim
-        (λ y. decided (with f p) (with g p) (ap (cond (is_eq (R p.0 k)) (Some p.1)) h) xs ∙ ap (λ l. update_all (eq_by_cmp R) g l k) (sym (picked (ties before (k, v) p) (p ∷ rest) rest y)))
-        (λ n. decided (with f p) g (passed (is_eq (R p.0 k)) (Some p.1) (f k) (sym (tied p) ∙ n) ∙ h) xs ∙ ap (λ l. update_all (eq_by_cmp R) g l k) (sym (passed (ties before (k, v) p) (p ∷ rest) rest n)))
+        (λ y. decided (with f p) (with g p) (ap (cond (is_eq (R p.0 k)) (Some p.1)) h) xs ∙
+        ap (λ l. update_all (eq_by_cmp R) g l k) (sym (picked (ties before (k, v) p) (p ∷ rest) rest y)))
+        (λ n. decided (with f p) g (passed (is_eq (R p.0 k)) (Some p.1) (f k) (sym (tied p) ∙ n) ∙ h) xs ∙
+        ap (λ l. update_all (eq_by_cmp R) g l k) (sym (passed (ties before (k, v) p) (p ∷ rest) rest n)))
         (cases_Bool (ties before (k, v) p))
 
   pub alike : (k : K) (xs ys : List (K × X)) → length ys ≡ length xs → IsStableBy before xs ys

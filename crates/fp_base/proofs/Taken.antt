@@ -16,7 +16,9 @@ pub others_stay : (name q : List ℕ) (es : List Entry) → (q ≡ name → ⊥)
     → get_member q (members_view (remove_entry (is_at (λ k. slice_cmp nat_cmp name (string_bytes k))) es)) ≡ get_member q (members_view es)
 others_stay name q [] other = refl
 others_stay name q (e ∷ es) other =
-    elim (slice_cmp nat_cmp name (string_bytes e.0)) as (λ o. slice_cmp nat_cmp name (string_bytes e.0) ≡ o → get_member q (members_view (cond (is_eq o) es (e ∷ without name es))) ≡ get_member q (members_view (e ∷ es))) [
+    elim (slice_cmp nat_cmp name (string_bytes e.0)) as
+    (λ o. slice_cmp nat_cmp name (string_bytes e.0) ≡ o →
+    get_member q (members_view (cond (is_eq o) es (e ∷ without name es))) ≡ get_member q (members_view (e ∷ es))) [
       | Less ↦ λ p. ap (λ r. match_ordering (slice_cmp nat_cmp q (string_bytes e.0)) r (Some (view e.1)) r) (others_stay name q es other)
       | Equal ↦ λ p. sym (member_later q e es (λ h. other (h ∙ sym (exact_bytes name (string_bytes e.0) p))))
       | Greater ↦ λ p. ap (λ r. match_ordering (slice_cmp nat_cmp q (string_bytes e.0)) r (Some (view e.1)) r) (others_stay name q es other)

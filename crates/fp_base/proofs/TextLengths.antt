@@ -1,7 +1,9 @@
 -- How short a canonical text can be.
-use Rattle.std.proofs.Common.{◌≡◌, ℕ, ◌+◌, ◌≤◌, ◌<◌, sym, ap, ◌∙◌, List, [], ◌∷◌, ◌++◌, length, Bool, true, false, arith, rules, length-append}
+use Rattle.std.proofs.Common.{◌≡◌, ℕ, ◌+◌, ◌≤◌, ◌<◌, sym, ap, ◌∙◌, List, [], ◌∷◌, ◌++◌, length, Bool, true, false}
+use Rattle.std.proofs.Common.{arith, rules, length-append}
 use Rattle.json.specs.Print.{escape, escape_byte, quoted}
-use Rattle.serde_json.specs.Data.{Data, depth, null, boolean, number, string, array, object, Items, no_items, item, Members, no_members, member}
+use Rattle.serde_json.specs.Data.{Data, depth, null, boolean, number, string, array, object, Items, no_items, item}
+use Rattle.serde_json.specs.Data.{Members, no_members, member}
 use Rattle.serde_json.specs.Written.{compact_text, items_text, members_text, comma_if}
 use Rattle.std.specs.Prelude.{nat_le, is_some}
 use Rattle.fp_base.specs.Count.{spend}

@@ -2,7 +2,8 @@
 use Rattle.std.proofs.Common.{◌≡◌, ◌∙◌, ℕ, List, true, false, Some, refl, sym, ap, true≢false}
 use Rattle.std.specs.Prelude.{is_some}
 use Rattle.std.proofs.lemmas.Bool.{and_parts}
-use Rattle.serde_json.specs.Data.{Num, unsigned, negative, float, Data, null, boolean, number, string, array, object, Items, no_items, item, Members, no_members, member}
+use Rattle.serde_json.specs.Data.{Num, unsigned, negative, float, Data, null, boolean, number, string, array, object}
+use Rattle.serde_json.specs.Data.{Items, no_items, item, Members, no_members, member}
 use Rattle.serde_json.specs.Find.{as_i64, is_float, get}
 use Rattle.serde_json.specs.Written.{has_float, items_have_float, members_have_float}
 use Rattle.fp_base.specs.Whole.{is_whole, items_whole, members_whole}
@@ -35,4 +36,5 @@ mutual
 
 -- a member of whole data is whole
 pub whole-get : (k : List ℕ) (d e : Data) → is_whole d ≡ true → get k d ≡ Some e → is_whole e ≡ true
-whole-get k d e w h = inside (λ x. is_whole x ≡ true) (λ ms. members_whole ms ≡ true) (λ l x ms all. and_parts (is_whole x) (members_whole ms) all) k d e (λ ms is. ap is_whole (sym is) ∙ w) h
+whole-get k d e w h = inside (λ x. is_whole x ≡ true) (λ ms. members_whole ms ≡ true)
+    (λ l x ms all. and_parts (is_whole x) (members_whole ms) all) k d e (λ ms is. ap is_whole (sym is) ∙ w) h

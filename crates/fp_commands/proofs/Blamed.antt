@@ -22,6 +22,7 @@ pub blames-open : (s t n : ℕ) (f : OpenFault) → (f ≡ opening.Device → s 
 blames-open s t n f h = grind arith
 
 -- a reader alone, beside a disk and a writer that didn't fail
-pub blames-read : (s t r0 r w : ℕ) (f : CommandFault) → t ≡ s → Blames {A = Unit {0}} r0 r (Err f) → BlamesRun {A = Bool} (s + (r0 + w)) (t + (r + w)) (Err f)
+pub blames-read : (s t r0 r w : ℕ) (f : CommandFault) → t ≡ s → Blames {A = Unit {0}} r0 r (Err f) →
+    BlamesRun {A = Bool} (s + (r0 + w)) (t + (r + w)) (Err f)
 blames-read s t r0 r w command.Device same h = omega (arith, same, h)
 blames-read s t r0 r w f same h = grind arith

@@ -1,5 +1,6 @@
 -- What a run over a session leaves of it and of its disk.
-use Rattle.std.proofs.Common.{◌≡◌, ◌≢◌, ◌⊎◌, ◌<◌, ◌≤◌, ◌+◌, ◌++◌, ℕ, Bool, List, MatchResult, Option, Ok, Err, Result, refl, sym, ap, subst, inl, inr, ◌∙◌, arith}
+use Rattle.std.proofs.Common.{◌≡◌, ◌≢◌, ◌⊎◌, ◌<◌, ◌≤◌, ◌+◌, ◌++◌, ℕ, Bool, List, MatchResult, Option, Ok, Err, Result}
+use Rattle.std.proofs.Common.{refl, sym, ap, subst, inl, inr, ◌∙◌, arith}
 use Rattle.std.proofs.lemmas.Option.{IfSome_then}
 use Rattle.fp_disk.specs.Crashes.{AtAnyMoment, EachCrash, SameHonesty}
 use Rattle.fp_disk.specs.Moments.{leaves_map, leaves_then}
@@ -21,7 +22,8 @@ use Rattle.fp_desk.specs.Desk.{settled_revision}
 use Rattle.fp_committer.specs.Kept.{IsAfterFirst}
 use Rattle.fp_committer.specs.Works.{BreaksOff, Leads, calls_of, work_calls}
 use Rattle.fp_committer.specs.WorksLaws.{breaks_on, works_break}
-use Rattle.fp_session.specs.Session.{Begins, disk_of, Fails, flags_of, HasPlace, IsReady, Keeps, LacksRoomFor, LeavesFlags, SessionState, StandsAhead}
+use Rattle.fp_session.specs.Session.{Begins, disk_of, Fails, flags_of, HasPlace, IsReady, Keeps, LacksRoomFor}
+use Rattle.fp_session.specs.Session.{LeavesFlags, SessionState, StandsAhead}
 use Rattle.fp_committer.specs.Course as committer
 use Rattle.fp_committer.specs.CourseLaws.{course_then}
 use Rattle.fp_committer.proofs.Courses.{course_keeps, half_through, runs}
@@ -58,7 +60,8 @@ set_store = record {
 }
 
 -- no run over them fails to keep edits
-pub set-course : (A : Type 0) (P : State → Type 0) (a b : State) (f : ApplyFault) → StoreRun {A = A} set_store P a b (Err f) → IsStreamFault (of_run f)
+pub set-course : (A : Type 0) (P : State → Type 0) (a b : State) (f : ApplyFault) →
+    StoreRun {A = A} set_store P a b (Err f) → IsStreamFault (of_run f)
 set-course A P a b Device h = tt
 set-course A P a b StoreFailed h = absurd h.failed
 set-course A P a b Memory h = tt
@@ -83,12 +86,25 @@ session_store disk = record {
 }
 
 -- A run over a session that was opened on a disk and gave it back, over streams: it was asked what was read, as `asked` says
-module _ {D R W : Type 0} (disk : Ghosts D) (remaining : R → Option (List ℕ)) (contents : W → Option (List ℕ)) (Reads : List ℕ → List Ask → Type 0) (most : ℕ) (MayEnd : Type 0 → List ℕ → Option (List ℕ) → CommandFault → Type 0) (old new : Streams R W)
-    (d0 d1 : D) (s k : SessionState D) (stands : disk.honest d0 → StandsFor (disk.bytes d0) (flags_of s)) (only : disk.honest d0 → (other : State) → StandsFor (disk.bytes d0) other → other ≡ flags_of s)
-    (ready : IsReady disk s) (first : Begins disk s) (begins : s.half.store.compaction.next ≡ Begin) (well : disk.faults (disk_of s) ≡ disk.faults d0) (opened : ThenReads opening_calls (disk.calls d0) (disk.calls (disk_of s))) (read : AtAnyMoment disk d0 (disk_of s) (IsOutcome (disk.unsynced d0)))
-    (honest : SameHonesty disk d0 (disk_of s)) (here : d1 ≡ disk_of k) (keeps : EachCrash disk d1 (StandsAhead k.desk)) (Of : (List Ask → Type 0) → Type 0) (asked : (P : List Ask → Type 0) → Of P → Asked (remaining old.reader.inner) Reads P)
-    (both : (P Q : List Ask → Type 0) → Of P → Of Q → Of (λ xs. P xs × Q xs)) (may_end : (f : ApplyFault) → MayEnd (disk.honest d0) (disk.bytes d0) (remaining old.reader.inner) (of_run f))
-    (only_now : (x : D) (c : List ℕ) → disk.honest x → disk.crash_states_since x (disk.moment x) c → IsOutcome (disk.unsynced x) c) (counts_now : (x : D) (t : ℕ) (c : List ℕ) → disk.honest x → t ≤ disk.moment x → IsOutcome (disk.unsynced x) c → disk.crash_states_since x t c) (present : (x : D) → disk.honest x → IsOutcome (disk.unsynced x) (disk.bytes x)) where
+module _ {D R W : Type 0} (disk : Ghosts D) (remaining : R → Option (List ℕ)) (contents : W → Option (List ℕ))
+    (Reads : List ℕ → List Ask → Type 0) (most : ℕ)
+    (MayEnd : Type 0 → List ℕ → Option (List ℕ) → CommandFault → Type 0) (old new : Streams R W)
+    (d0 d1 : D) (s k : SessionState D) (stands : disk.honest d0 → StandsFor (disk.bytes d0) (flags_of s))
+    (only : disk.honest d0 → (other : State) → StandsFor (disk.bytes d0) other → other ≡ flags_of s)
+    (ready : IsReady disk s) (first : Begins disk s) (begins : s.half.store.compaction.next ≡ Begin)
+    (well : disk.faults (disk_of s) ≡ disk.faults d0)
+    (opened : ThenReads opening_calls (disk.calls d0) (disk.calls (disk_of s)))
+    (read : AtAnyMoment disk d0 (disk_of s) (IsOutcome (disk.unsynced d0)))
+    (honest : SameHonesty disk d0 (disk_of s)) (here : d1 ≡ disk_of k)
+    (keeps : EachCrash disk d1 (StandsAhead k.desk)) (Of : (List Ask → Type 0) → Type 0)
+    (asked : (P : List Ask → Type 0) → Of P → Asked (remaining old.reader.inner) Reads P)
+    (both : (P Q : List Ask → Type 0) → Of P → Of Q → Of (λ xs. P xs × Q xs))
+    (may_end : (f : ApplyFault) → MayEnd (disk.honest d0) (disk.bytes d0) (remaining old.reader.inner) (of_run f))
+    (only_now : (x : D) (c : List ℕ) → disk.honest x → disk.crash_states_since x (disk.moment x) c →
+    IsOutcome (disk.unsynced x) c)
+    (counts_now : (x : D) (t : ℕ) (c : List ℕ) → disk.honest x → t ≤ disk.moment x →
+    IsOutcome (disk.unsynced x) c → disk.crash_states_since x t c)
+    (present : (x : D) → disk.honest x → IsOutcome (disk.unsynced x) (disk.bytes x)) where
   abbrev start : State
   start = flags_of s
 
@@ -103,13 +119,19 @@ module _ {D R W : Type 0} (disk : Ghosts D) (remaining : R → Option (List ℕ)
   Lacks = LacksRoom (disk.honest d0) (disk.bytes d0) (disk.unsynced d1) left Reads ⊎ (disk.faults d0 < disk.faults d1)
 
   abbrev Promise : Result Bool ApplyFault → Type 0
-  Promise outcome = RunPromise (session_store disk) Of most s k (contents old.writer.inner) (contents new.writer.inner) old.writer.failures new.writer.failures outcome
+  Promise outcome = RunPromise (session_store disk) Of most s k (contents old.writer.inner)
+      (contents new.writer.inner) old.writer.failures new.writer.failures outcome
 
   abbrev Course : ApplyFault → Type 0
   Course f = StoreRun {A = Bool} (session_store disk) LedTo s k (Err f)
 
   leads : disk.honest d0 → (c : List ℕ) → ((u : State) × LedTo u × StandsFor c u) → IsLeftOnDisk (disk.bytes d0) c left Reads
-  leads h c t = λ start there. (t.0, t.2, inr (subst (λ x. Asked left Reads (λ xs. IsAfterPrefix x xs t.0)) (sym (only h start there)) (asked (λ xs. IsAfterPrefix (flags_of s) xs t.0) t.1)))
+  leads h c t = λ start there. (
+    t.0,
+    t.2,
+    inr (subst (λ x. Asked left Reads (λ xs. IsAfterPrefix x xs t.0)) (sym (only h start there))
+        (asked (λ xs. IsAfterPrefix (flags_of s) xs t.0) t.1)),
+  )
 
   module _ (moved : LeavesFlags disk s k LedTo) where
     -- it keeps its word as before
@@ -119,17 +141,24 @@ module _ {D R W : Type 0} (disk : Ghosts D) (remaining : R → Option (List ℕ)
     -- at each moment of it
     ran-any_moment : AtAnyMoment disk d0 d1 (λ c. IsOutcome (disk.unsynced d0) c ⊎ IsLeftOnDisk (disk.bytes d0) c left Reads)
     ran-any_moment = λ h.
-        let m = disk.moment in let since = disk.crash_states_since in let Q : List ℕ → Type 0 = λ c. IsOutcome (disk.unsynced d0) c ⊎ IsLeftOnDisk (disk.bytes d0) c left Reads in
+        let m = disk.moment in let since = disk.crash_states_since in
+        let Q : List ℕ → Type 0 = λ c. IsOutcome (disk.unsynced d0) c ⊎ IsLeftOnDisk (disk.bytes d0) c left Reads
+        in
         subst (λ x. LeavesOnly m since d0 x Q) (sym here)
-        (leaves_then m since d0 (disk_of s) (disk_of k) Q (leaves_map m since d0 (disk_of s) (IsOutcome (disk.unsynced d0)) Q (λ c o. inl o) (read h))
-        (leaves_map m since (disk_of s) (disk_of k) (λ c. (u : State) × LedTo u × StandsFor c u) Q (λ c t. inr (leads h c t)) (moved.1 (honest.0 h))))
+        (leaves_then m since d0 (disk_of s) (disk_of k) Q
+        (leaves_map m since d0 (disk_of s) (IsOutcome (disk.unsynced d0)) Q (λ c o. inl o) (read h))
+        (leaves_map m since (disk_of s) (disk_of k) (λ c. (u : State) × LedTo u × StandsFor c u) Q
+        (λ c t. inr (leads h c t)) (moved.1 (honest.0 h))))
 
     -- at its end
     ran-left : disk.honest d0 → IsLeftOnDisk (disk.bytes d0) (disk.bytes d1) left Reads
     ran-left h =
         let l = moved.1 (honest.0 h) in let there = moved.0.0 (honest.0 h) in
         subst (λ x. IsLeftOnDisk (disk.bytes d0) (disk.bytes x) left Reads) (sym here)
-        (leads h (disk.bytes (disk_of k)) (l.each (disk.bytes (disk_of k)) (counts_now (disk_of k) (disk.moment (disk_of s)) (disk.bytes (disk_of k)) there l.later (present (disk_of k) there))))
+        (leads h (disk.bytes (disk_of k))
+        (l.each (disk.bytes (disk_of k))
+        (counts_now (disk_of k) (disk.moment (disk_of s)) (disk.bytes (disk_of k)) there l.later
+        (present (disk_of k) there))))
 
     -- why the store failed
     lacks : (x : SessionState D) → Keeps disk s x → ((u : State) → IsAfterFirst x.desk (settled_revision x.desk) u → LedTo u)
@@ -141,10 +170,12 @@ module _ {D R W : Type 0} (disk : Ghosts D) (remaining : R → Option (List ℕ)
       stood = stands;
       some = l.some;
       asked = asked (λ xs. IsAfterPrefix start xs l.flags × IsAfterPrefix start xs (after_all l.flags l.batch))
-          (both (λ xs. IsAfterPrefix start xs l.flags) (λ xs. IsAfterPrefix start xs (after_all l.flags l.batch)) (there l.flags l.from) (there (after_all l.flags l.batch) l.to));
+          (both (λ xs. IsAfterPrefix start xs l.flags) (λ xs. IsAfterPrefix start xs (after_all l.flags l.batch))
+          (there l.flags l.from) (there (after_all l.flags l.batch) l.to));
       generation = l.generation;
       last = l.last;
-      full = λ h. subst (λ y. IsFull (disk.unsynced y) l.flags (record { first = 0; changes = l.batch }) l.generation) (sym here) (l.full (moved.0.0 (honest.0 h)));
+      full = λ h. subst (λ y. IsFull (disk.unsynced y) l.flags (record { first = 0; changes = l.batch })
+          l.generation) (sym here) (l.full (moved.0.0 (honest.0 h)));
     })
     lacks x led there (inr more) = let same = led.no_failure in let at = ap disk.faults here in inr (omega (arith, more, same, at, well))
 
@@ -164,14 +195,17 @@ module _ {D R W : Type 0} (disk : Ghosts D) (remaining : R → Option (List ℕ)
     last = off.last;
     lead = subst (λ (p : Step). Leads p off.works off.next) begins off.lead;
     may = off.may;
-    calls = subst (λ (l : List CallKind). MakesSome (work_calls off.last) (disk.calls (disk_of s) ++ calls_of off.works) l) (sym (ap disk.calls here)) off.calls;
+    calls = subst (λ (l : List CallKind). MakesSome (work_calls off.last)
+        (disk.calls (disk_of s) ++ calls_of off.works) l) (sym (ap disk.calls here)) off.calls;
   }
 
   ran-broke : (f : ApplyFault) → Course f → CallsSomeWorks (disk.calls d0) (disk.calls d1)
   ran-broke Device went = broke (works_break disk s.half.store k.half.store went.called)
   ran-broke Memory went = broke (works_break disk s.half.store k.half.store went.called)
-  ran-broke StoreFailed failed = broke (breaks_on disk s.half.store failed.before.half.store k.half.store failed.led.called failed.failed.called)
-  ran-broke CommitMemory failed = broke (breaks_on disk s.half.store failed.before.half.store k.half.store failed.led.called failed.failed.called)
+  ran-broke StoreFailed failed =
+      broke (breaks_on disk s.half.store failed.before.half.store k.half.store failed.led.called failed.failed.called)
+  ran-broke CommitMemory failed =
+      broke (breaks_on disk s.half.store failed.before.half.store k.half.store failed.led.called failed.failed.called)
 
   -- by the course of a committer
   ran-course : (f : ApplyFault) → Course f → committer.Course disk s.half k.half
@@ -180,46 +214,55 @@ module _ {D R W : Type 0} (disk : Ghosts D) (remaining : R → Option (List ℕ)
   ran-course StoreFailed c = course_then disk s.half c.before.half k.half c.led.course c.failed.course
   ran-course CommitMemory c = course_then disk s.half c.before.half k.half c.led.course c.failed.course
 
-  ran-committed : committer.Course disk s.half k.half → (from : State) × (disk.honest d0 → StandsFor (disk.bytes d0) from) × committer.RunsCommitter disk d0 d1 from
+  ran-committed : committer.Course disk s.half k.half → (from : State) ×
+      (disk.honest d0 → StandsFor (disk.bytes d0) from) × committer.RunsCommitter disk d0 d1 from
   ran-committed course = (
     s.half.store.store.start,
     λ h. subst (λ (u : State). StandsFor (disk.bytes d0) u) first.start (stands h),
     runs disk d0 d1 s.half.store k.half.store read honest here
-        (half_through disk s.half k.half first.none.0 first.none.1 course (course_keeps disk only_now s.half k.half first.exit course) k.half.store refl),
+        (half_through disk s.half k.half first.none.0 first.none.1 course
+        (course_keeps disk only_now s.half k.half first.exit course) k.half.store refl),
   )
 
   -- what failed
-  ran-blamed : (f : ApplyFault) → Course f → plane.Blames {A = Bool} (failures old) (failures new) (Err f) → BlamesRun {A = Bool} (disk.faults d0 + failures old) (disk.faults d1 + failures new) (Err (of_run f))
+  ran-blamed : (f : ApplyFault) → Course f → plane.Blames {A = Bool} (failures old) (failures new) (Err f) →
+      BlamesRun {A = Bool} (disk.faults d0 + failures old) (disk.faults d1 + failures new) (Err (of_run f))
   ran-blamed Device went rose = let same = went.no_failure in let at = ap disk.faults here in omega (arith, rose, same, at, well)
   ran-blamed Memory went rose = tt
   ran-blamed StoreFailed went rose = tt
   ran-blamed CommitMemory went rose = tt
 
-  pub ran : (outcome : Result Bool ApplyFault) (result : Result Bool CommandFault) → MatchResult outcome (λ told. result ≡ Ok told) (λ f. result ≡ Err (of_run f)) → Promise outcome → plane.Blames (failures old) (failures new) outcome
-      → ((f : ApplyFault) → outcome ≡ Err f → f ≢ Device → new.reader.failures ≡ old.reader.failures) → RunsOnDisk disk remaining contents Reads most MayEnd old new d0 d1 result
+  pub ran : (outcome : Result Bool ApplyFault) (result : Result Bool CommandFault) →
+      MatchResult outcome (λ told. result ≡ Ok told) (λ f. result ≡ Err (of_run f)) → Promise outcome →
+      plane.Blames (failures old) (failures new) outcome
+      → ((f : ApplyFault) → outcome ≡ Err f → f ≢ Device → new.reader.failures ≡ old.reader.failures) →
+      RunsOnDisk disk remaining contents Reads most MayEnd old new d0 d1 result
   ran (Ok told) result is p blames calm = subst (RunsOnDisk disk remaining contents Reads most MayEnd old new d0 d1) (sym is) (record {
     run = record {
       start = start;
       flags = flags_of k;
       stood = stands;
       sure = λ h c o. let t = keeps ((ran-honest p.any_moment).0 h) c o in subst (λ u. StandsFor c u) (p.kept t.0 t.1) t.2;
-      run = IfSome_then left (asked (λ xs. IsRunWritten start xs told (contents old.writer.inner) (contents new.writer.inner) (flags_of k)) p.run) (λ input a. (
-        a.0,
-        a.1,
-        (
-          a.2,
-          λ all. (
-            written-script start a.0 told (contents old.writer.inner) (contents new.writer.inner) (flags_of k) a.2 all,
-            written-flags start a.0 told (contents old.writer.inner) (contents new.writer.inner) (flags_of k) a.2 all,
-          ),
-        ),
-      ));
+      run = IfSome_then left (asked (λ xs. IsRunWritten start xs told (contents old.writer.inner)
+          (contents new.writer.inner) (flags_of k)) p.run) (λ input a. (
+            a.0,
+            a.1,
+            (
+              a.2,
+              λ all. (
+                written-script start a.0 told (contents old.writer.inner) (contents new.writer.inner) (flags_of k) a.2 all,
+                written-flags start a.0 told (contents old.writer.inner) (contents new.writer.inner) (flags_of k) a.2 all,
+              ),
+            ),
+          ));
     };
     called = record {
       begun = disk.calls (disk_of s);
       opened = opened;
       works = p.course.called.works;
-      lead = subst (λ (x : Step). Leads x p.course.called.works Begin) begins (subst (λ (x : Step). Leads s.half.store.compaction.next p.course.called.works x) p.rests p.course.called.lead);
+      lead = subst (λ (x : Step). Leads x p.course.called.works Begin) begins
+          (subst (λ (x : Step). Leads s.half.store.compaction.next p.course.called.works x) p.rests
+          p.course.called.lead);
       calls = ap disk.calls here ∙ p.course.called.calls;
     };
     left = ran-left p.any_moment;
@@ -249,8 +292,10 @@ module _ {D R W : Type 0} (disk : Ghosts D) (remaining : R → Option (List ℕ)
       f,
       t.2,
       refl,
-      subst (λ x. Asked left Reads (λ xs. IsToldBy x xs most f (contents old.writer.inner) (contents new.writer.inner) (flags_of k) t.0)) (sym (only h at there))
-          (asked (λ xs. IsToldBy start xs most f (contents old.writer.inner) (contents new.writer.inner) (flags_of k) t.0) (p.told same t.0 t.1)),
+      subst (λ x. Asked left Reads (λ xs. IsToldBy x xs most f (contents old.writer.inner)
+          (contents new.writer.inner) (flags_of k) t.0)) (sym (only h at there))
+          (asked (λ xs. IsToldBy start xs most f (contents old.writer.inner) (contents new.writer.inner) (flags_of k)
+          t.0) (p.told same t.0 t.1)),
     ));
     fault = may_end f;
     nothing_written = refused-run (new.writer ≡ old.writer) f;

@@ -17,7 +17,8 @@ use Rattle.fp_commands.specs.Faults.{of_import, of_open, of_run}
 
 -- ---- what was read
 
-pub document-fault : (left : Option (List ℕ)) (fault : ImportFault) → IfSome left (λ input. Tells fault (λ f. import_of input ≡ Err f)) → IsDocumentFault left (of_import fault)
+pub document-fault : (left : Option (List ℕ)) (fault : ImportFault) →
+    IfSome left (λ input. Tells fault (λ f. import_of input ≡ Err f)) → IsDocumentFault left (of_import fault)
 document-fault left import.NotDocument h = h
 document-fault left (import.RefUnknown name) h = h
 document-fault left import.RefTooDeep h = h
@@ -27,17 +28,20 @@ document-fault left (import.BadKey name) h = IfSome_then left h (λ input e. (st
 
 -- ---- faults of an import
 
-pub importing-open : (is_honest : Type 0) (c : List ℕ) (left : Option (List ℕ)) (f : OpenFault) → (is_honest → RefusesBytes c f) → (is_honest → IsUnlessWanting c f) → IsImportingFault is_honest c left (of_open f)
+pub importing-open : (is_honest : Type 0) (c : List ℕ) (left : Option (List ℕ)) (f : OpenFault) →
+    (is_honest → RefusesBytes c f) → (is_honest → IsUnlessWanting c f) → IsImportingFault is_honest c left (of_open f)
 importing-open is_honest c left opening.Unformatted r none = λ h. (r h, none h)
 importing-open is_honest c left (opening.UnknownVersion v) r none = λ h. (r h, none h)
 importing-open is_honest c left (opening.Damaged at) r none = λ h. (r h, none h)
 importing-open is_honest c left opening.Device r none = tt
 importing-open is_honest c left opening.Memory r none = tt
 
-pub importing-run : (is_honest : Type 0) (c : List ℕ) (left : Option (List ℕ)) (f : ApplyFault) → IsImportingFault is_honest c left (of_run f)
+pub importing-run : (is_honest : Type 0) (c : List ℕ) (left : Option (List ℕ)) (f : ApplyFault) →
+    IsImportingFault is_honest c left (of_run f)
 importing-run is_honest c left f = grind arith
 
-pub importing-document : (is_honest : Type 0) (c : List ℕ) (left : Option (List ℕ)) (f : CommandFault) → (is_honest → (s : State) × StandsFor c s) → IsDocumentFault left f → IsImportingFault is_honest c left f
+pub importing-document : (is_honest : Type 0) (c : List ℕ) (left : Option (List ℕ)) (f : CommandFault) →
+    (is_honest → (s : State) × StandsFor c s) → IsDocumentFault left f → IsImportingFault is_honest c left f
 importing-document is_honest c left f stands h = grind arith
 
 -- no document refuses a file

@@ -10,14 +10,16 @@ use Rattle.fp_commands.specs.Faults.{of_open, of_run}
 use Rattle.fp_commands.specs.Disks.{IsShowingFault, IsApplyingFault, IsStreamFault, IfFileRefused, IfRefused}
 
 -- what opening refuses
-pub showing-open : (is_honest : Type 0) (c : List ℕ) (f : OpenFault) → (is_honest → RefusesBytes c f) → (is_honest → IsUnlessWanting c f) → IsShowingFault is_honest c (of_open f)
+pub showing-open : (is_honest : Type 0) (c : List ℕ) (f : OpenFault) → (is_honest → RefusesBytes c f) →
+    (is_honest → IsUnlessWanting c f) → IsShowingFault is_honest c (of_open f)
 showing-open is_honest c Unformatted r none = λ h. (r h, none h)
 showing-open is_honest c (UnknownVersion v) r none = λ h. (r h, none h)
 showing-open is_honest c (Damaged at) r none = λ h. (r h, none h)
 showing-open is_honest c Device r none = tt
 showing-open is_honest c Memory r none = tt
 
-pub applying-open : (is_honest : Type 0) (c : List ℕ) (f : OpenFault) → (is_honest → RefusesBytes c f) → (is_honest → IsUnlessWanting c f) → IsApplyingFault is_honest c (of_open f)
+pub applying-open : (is_honest : Type 0) (c : List ℕ) (f : OpenFault) → (is_honest → RefusesBytes c f) →
+    (is_honest → IsUnlessWanting c f) → IsApplyingFault is_honest c (of_open f)
 applying-open is_honest c Unformatted r none = λ h. (r h, none h)
 applying-open is_honest c (UnknownVersion v) r none = λ h. (r h, none h)
 applying-open is_honest c (Damaged at) r none = λ h. (r h, none h)

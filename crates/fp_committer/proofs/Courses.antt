@@ -1,5 +1,6 @@
 -- A half that goes on, step by step, and what any moment of that leaves.
-use Rattle.std.proofs.Common.{◌≡◌, ◌⊎◌, Ok, Err, ◌+◌, ℕ, List, [], ◌∷◌, ◌++◌, length, refl, sym, ap, subst, ◌∙◌, inl, inr, arith, append-nil, append_assoc, length-append}
+use Rattle.std.proofs.Common.{◌≡◌, ◌⊎◌, Ok, Err, ◌+◌, ℕ, List, [], ◌∷◌, ◌++◌, length, refl, sym, ap, subst, ◌∙◌, inl}
+use Rattle.std.proofs.Common.{inr, arith, append-nil, append_assoc, length-append}
 use mathlib.Core.List.{IsPrefix}
 use Rattle.std.specs.Prelude.{OnOk, Result}
 use Rattle.fp_disk.specs.Crashes.{AtAnyMoment, EachCrash, SameHonesty}
@@ -117,14 +118,17 @@ module _ {D : Type 0} (disk : Ghosts D) where
   -- what a half keeps, a course from an earlier one to a later one keeps
   kept_within : (a x b : StoreHalfState D) → Later a x → Later x b → (c : List ℕ) → KeptBy x c → KeptThrough a b c
   kept_within a x b h k c kept =
-      let len = ap length h.settled.1 in let more = length-append a.half.settled h.settled.0 in let start = ap (λ (i : Identity). i.start.revision) h.store in
+      let len = ap length h.settled.1 in let more = length-append a.half.settled h.settled.0 in
+      let start = ap (λ (i : Identity). i.start.revision) h.store in
       let low : KeptOf x.store.store.start x.half.all (a.store.store.start.revision + length a.half.settled) c =
-      kept_low x.store.store.start x.half.all (x.store.store.start.revision + length x.half.settled) (a.store.store.start.revision + length a.half.settled) c (omega (arith, len, more, start)) kept in
+      kept_low x.store.store.start x.half.all (x.store.store.start.revision + length x.half.settled)
+      (a.store.store.start.revision + length a.half.settled) c (omega (arith, len, more, start)) kept in
       let long = kept_longer x.store.store.start x.half.all k.all.0 (a.store.store.start.revision + length a.half.settled) c low in
       subst (λ (i : Identity). KeptOf i.start b.half.all (a.store.store.start.revision + length a.half.settled) c) h.store
       (subst (λ (l : List Change). KeptOf x.store.store.start l (a.store.store.start.revision + length a.half.settled) c) k.all.1 long)
 
-  module _ (only_now : (x : D) (c : List ℕ) → disk.honest x → disk.crash_states_since x (disk.moment x) c → IsOutcome (disk.unsynced x) c) where
+  module _ (only_now : (x : D) (c : List ℕ) → disk.honest x → disk.crash_states_since x (disk.moment x) c →
+      IsOutcome (disk.unsynced x) c) where
     still_keeps : (a : D) (P : List ℕ → Type 0) → EachCrash disk a P → AtAnyMoment disk a a P
     still_keeps a P keeps = λ h. leaves_still disk.moment disk.crash_states_since a P (λ c left. keeps h c (only_now a c h left))
 
@@ -133,26 +137,35 @@ module _ {D : Type 0} (disk : Ghosts D) where
     exit_of a b (inr h) = h.exit
 
     -- one step
-    step_keeps : (a x b : StoreHalfState D) → CallsOn disk a x ⊎ ListsOn disk a x → Later x b → AtAnyMoment disk a.store.disk x.store.disk (KeptThrough a b)
-    step_keeps a x b (inl h) k = weaker disk a.store.disk x.store.disk (KeptBy x) (KeptThrough a b) (kept_within a x b (later_step a x (inl h)) k) h.any_moment
+    step_keeps : (a x b : StoreHalfState D) → CallsOn disk a x ⊎ ListsOn disk a x → Later x b →
+        AtAnyMoment disk a.store.disk x.store.disk (KeptThrough a b)
+    step_keeps a x b (inl h) k = weaker disk a.store.disk x.store.disk (KeptBy x) (KeptThrough a b)
+        (kept_within a x b (later_step a x (inl h)) k) h.any_moment
     step_keeps a x b (inr h) k = subst (λ (s : StoreState D). AtAnyMoment disk s.disk x.store.disk (KeptThrough a b)) h.store
         (still_keeps x.store.disk (KeptThrough a b) (λ o c out. kept_within a x b (later_step a x (inr h)) k c (h.exit o c out)))
 
-    passes_keep : (a b : StoreHalfState D) (xs : List (StoreHalfState D)) → EachCrash disk a.store.disk (KeptBy a) → Passes disk a xs b → AtAnyMoment disk a.store.disk b.store.disk (KeptThrough a b)
-    passes_keep a b [] keeps h = subst (λ (x : StoreHalfState D). AtAnyMoment disk a.store.disk x.store.disk (KeptThrough a x)) (sym h) (still_keeps a.store.disk (KeptBy a) keeps)
+    passes_keep : (a b : StoreHalfState D) (xs : List (StoreHalfState D)) → EachCrash disk a.store.disk (KeptBy a) →
+        Passes disk a xs b → AtAnyMoment disk a.store.disk b.store.disk (KeptThrough a b)
+    passes_keep a b [] keeps h = subst
+        (λ (x : StoreHalfState D). AtAnyMoment disk a.store.disk x.store.disk (KeptThrough a x)) (sym h)
+        (still_keeps a.store.disk (KeptBy a) keeps)
     passes_keep a b (x ∷ xs) keeps h =
         let on = later_step a x h.0 in let behind = passes_later x b xs h.1 in
         next_moment disk a.store.disk x.store.disk b.store.disk (KeptThrough a b) on.honest (step_keeps a x b h.0 behind)
-        (weaker disk x.store.disk b.store.disk (KeptThrough x b) (KeptThrough a b) (through a x b on) (passes_keep x b xs (exit_of a x h.0) h.1))
+        (weaker disk x.store.disk b.store.disk (KeptThrough x b) (KeptThrough a b) (through a x b on)
+        (passes_keep x b xs (exit_of a x h.0) h.1))
       where
         through : (a x b : StoreHalfState D) → Later a x → (c : List ℕ) → KeptThrough x b c → KeptThrough a b c
         through a x b on c kept =
-            let len = ap length on.settled.1 in let more = length-append a.half.settled on.settled.0 in let start = ap (λ (i : Identity). i.start.revision) on.store in
+            let len = ap length on.settled.1 in let more = length-append a.half.settled on.settled.0 in
+            let start = ap (λ (i : Identity). i.start.revision) on.store in
             subst (λ (i : Identity). KeptOf i.start b.half.all (a.store.store.start.revision + length a.half.settled) c) on.store
-            (kept_low x.store.store.start b.half.all (x.store.store.start.revision + length x.half.settled) (a.store.store.start.revision + length a.half.settled) c (omega (arith, len, more, start)) kept)
+            (kept_low x.store.store.start b.half.all (x.store.store.start.revision + length x.half.settled)
+            (a.store.store.start.revision + length a.half.settled) c (omega (arith, len, more, start)) kept)
 
     -- whatever a crash leaves at any moment of a course keeps all that was settled as it began
-    pub course_keeps : (a b : StoreHalfState D) → EachCrash disk a.store.disk (KeptBy a) → Course disk a b → AtAnyMoment disk a.store.disk b.store.disk (KeptThrough a b)
+    pub course_keeps : (a b : StoreHalfState D) → EachCrash disk a.store.disk (KeptBy a) → Course disk a b →
+        AtAnyMoment disk a.store.disk b.store.disk (KeptThrough a b)
     course_keeps a b keeps h = passes_keep a b h.by keeps h.each
 
     -- a store that nothing was done with
@@ -168,12 +181,15 @@ module _ {D : Type 0} (disk : Ghosts D) where
           to = refl;
           fresh = (refl, refl);
           course = course_still disk first;
-          any_moment = still_keeps t.disk (KeptOf t.store.start [] t.store.start.revision) (λ h c out. front_kept t.store.start [] [] [] t.store.start.revision c refl (omega arith)
+          any_moment = still_keeps t.disk (KeptOf t.store.start [] t.store.start.revision)
+              (λ h c out. front_kept t.store.start [] [] [] t.store.start.revision c refl (omega arith)
               (subst (λ (l : List Change). StandsFor c (after_all t.store.start l)) none (idle_keeps t idle c (leaves h c out))));
         }
 
   -- and one whose half went on
-  unfoldable pub half_through : (a b : StoreHalfState D) → a.half.all ≡ [] → a.half.settled ≡ [] → Course disk a b → AtAnyMoment disk a.store.disk b.store.disk (KeptThrough a b) → (t : StoreState D) → t ≡ b.store → GoesThrough disk a.store t
+  unfoldable pub half_through : (a b : StoreHalfState D) → a.half.all ≡ [] → a.half.settled ≡ [] → Course disk a b →
+      AtAnyMoment disk a.store.disk b.store.disk (KeptThrough a b) → (t : StoreState D) → t ≡ b.store →
+      GoesThrough disk a.store t
   half_through a b none_drawn none_settled course moment t is = record {
     first = a;
     last = b;
@@ -181,23 +197,31 @@ module _ {D : Type 0} (disk : Ghosts D) where
     to = sym is;
     fresh = (none_drawn, none_settled);
     course = course;
-    any_moment = subst (λ (x : StoreState D). AtAnyMoment disk a.store.disk x.disk (KeptOf a.store.store.start b.half.all a.store.store.start.revision)) (sym is)
+    any_moment = subst (λ (x : StoreState D). AtAnyMoment disk a.store.disk x.disk
+        (KeptOf a.store.store.start b.half.all a.store.store.start.revision)) (sym is)
         (weaker disk a.store.disk b.store.disk (KeptThrough a b) (KeptOf a.store.store.start b.half.all a.store.store.start.revision)
-        (λ c kept. kept_low a.store.store.start b.half.all (a.store.store.start.revision + length a.half.settled) a.store.store.start.revision c (omega arith) kept) moment);
+        (λ c kept. kept_low a.store.store.start b.half.all (a.store.store.start.revision + length a.half.settled)
+        a.store.store.start.revision c (omega arith) kept) moment);
   }
 
   -- and a disk from its opening on
-  unfoldable pub runs : (before after : D) (t s : StoreState D) → AtAnyMoment disk before t.disk (IsOutcome (disk.unsynced before)) → SameHonesty disk before t.disk → after ≡ s.disk → GoesThrough disk t s → RunsCommitter disk before after t.store.start
+  unfoldable pub runs : (before after : D) (t s : StoreState D) →
+      AtAnyMoment disk before t.disk (IsOutcome (disk.unsynced before)) → SameHonesty disk before t.disk →
+      after ≡ s.disk → GoesThrough disk t s → RunsCommitter disk before after t.store.start
   runs before after t s opening honest given r =
-      let P : List ℕ → Type 0 = (λ c. IsOutcome (disk.unsynced before) c ⊎ KeptOf t.store.start r.last.half.all t.store.start.revision c) in record {
+      let P : List ℕ → Type 0 = (λ c. IsOutcome (disk.unsynced before) c ⊎ KeptOf t.store.start r.last.half.all
+      t.store.start.revision c) in record {
         opened = t;
         closed = s;
         start_is = refl;
         opening = opening;
         run = r;
         given_back = sym given;
-        any_moment = next_moment disk before t.disk after P honest (weaker disk before t.disk (IsOutcome (disk.unsynced before)) P (λ c o. inl o) opening)
-            (subst (λ (x : D). AtAnyMoment disk t.disk x P) (sym given) (weaker disk t.disk s.disk (KeptOf t.store.start r.last.half.all t.store.start.revision) P (λ c k. inr k) r.any_moment));
+        any_moment = next_moment disk before t.disk after P honest
+            (weaker disk before t.disk (IsOutcome (disk.unsynced before)) P (λ c o. inl o) opening)
+            (subst (λ (x : D). AtAnyMoment disk t.disk x P) (sym given)
+            (weaker disk t.disk s.disk (KeptOf t.store.start r.last.half.all t.store.start.revision) P
+            (λ c k. inr k) r.any_moment));
       }
 
   -- ---- works
@@ -227,36 +251,51 @@ module _ {D : Type 0} (disk : Ghosts D) where
 
     module _ (written : disk.calls c.store.disk ≡ disk.calls b.store.disk ++ Write ∷ []) where
       -- or behind that
-      pub unsealed : MakesSome (Sync ∷ Write ∷ Sync ∷ []) (disk.calls c.store.disk) (disk.calls d.store.disk) → BreaksOff disk a.store d.store
+      pub unsealed : MakesSome (Sync ∷ Write ∷ Sync ∷ []) (disk.calls c.store.disk) (disk.calls d.store.disk) →
+          BreaksOff disk a.store d.store
       unsealed calls = breaks_on disk a.store b.store d.store room.works (record {
         works = [];
         next = b.store.compaction.next;
         last = whole_batch;
         lead = refl;
         may = early;
-        calls = subst (λ (l : List CallKind). MakesSome batch_calls l (disk.calls d.store.disk)) (sym (append-nil (disk.calls b.store.disk)))
+        calls = subst (λ (l : List CallKind). MakesSome batch_calls l (disk.calls d.store.disk))
+            (sym (append-nil (disk.calls b.store.disk)))
             (inr (subst (λ (l : List CallKind). MakesSome (Sync ∷ Write ∷ Sync ∷ []) l (disk.calls d.store.disk)) written calls));
       })
 
       -- or it was sealed
-      pub whole : Reaches disk (Sync ∷ Write ∷ Sync ∷ []) d.progress c d → disk.faults c.store.disk ≡ disk.faults b.store.disk → c.store.compaction.next ≡ b.store.compaction.next → GoesWell disk a.store d.store
+      pub whole : Reaches disk (Sync ∷ Write ∷ Sync ∷ []) d.progress c d →
+          disk.faults c.store.disk ≡ disk.faults b.store.disk → c.store.compaction.next ≡ b.store.compaction.next →
+          GoesWell disk a.store d.store
       whole r same next = well_then a.store b.store d.store room (record {
         well = r.well;
         no_failure = r.no_failure ∙ same;
         works = record {
           works = whole_batch ∷ [];
           lead = (early, r.next ∙ next);
-          calls = r.called ∙ ap (λ (l : List CallKind). l ++ Sync ∷ Write ∷ Sync ∷ []) written ∙ append_assoc (disk.calls b.store.disk) (Write ∷ []) (Sync ∷ Write ∷ Sync ∷ []);
+          calls = r.called ∙ ap (λ (l : List CallKind). l ++ Sync ∷ Write ∷ Sync ∷ []) written ∙
+              append_assoc (disk.calls b.store.disk) (Write ∷ []) (Sync ∷ Write ∷ Sync ∷ []);
         };
       })
 
     -- where the last of its calls were made
-    pub whole_by : Reaches disk (Write ∷ []) batch_staged b c → (r : Result (Unit {0}) CommitFault) → OnOk r (Reaches disk (Sync ∷ Write ∷ Sync ∷ []) batch_sealed c d) → OnOk r (GoesWell disk a.store d.store)
-    whole_by wrote (Ok x) made = whole wrote.called (record { progress = refl; well = made.well; no_failure = made.no_failure; next = made.next; called = made.called }) wrote.no_failure wrote.next
+    pub whole_by : Reaches disk (Write ∷ []) batch_staged b c → (r : Result (Unit {0}) CommitFault) →
+        OnOk r (Reaches disk (Sync ∷ Write ∷ Sync ∷ []) batch_sealed c d) → OnOk r (GoesWell disk a.store d.store)
+    whole_by wrote (Ok x) made = whole wrote.called
+        (record {
+          progress = refl;
+          well = made.well;
+          no_failure = made.no_failure;
+          next = made.next;
+          called =
+              made.called;
+        }) wrote.no_failure wrote.next
     whole_by wrote (Err e) made = tt
 
 -- ---- a half whose desk draws and settles beside it
-module _ {D : Type 0} (disk : Ghosts D) (a b : DeskHalfState) (h n : StoreHalfState D) (count : ℕ) (exit : EachCrash disk n.store.disk (KeptBy n)) where
+module _ {D : Type 0} (disk : Ghosts D) (a b : DeskHalfState) (h n : StoreHalfState D) (count : ℕ)
+    (exit : EachCrash disk n.store.disk (KeptBy n)) where
   pub drawn_lists : HaveDrawn a b h n count → ListsOn disk h n
   drawn_lists d = record {
     store = ap (λ (x : StoreHalfState D). x.store) d.other;

@@ -12,7 +12,8 @@ module _ {D : Type 0} (disk : Ghosts D) where
   pub weaker : (a b : D) (P Q : List ℕ → Type 0) → ((c : List ℕ) → P c → Q c) → AtAnyMoment disk a b P → AtAnyMoment disk a b Q
   weaker a b P Q f l = λ h. leaves_map disk.moment disk.crash_states_since a b P Q f (l h)
 
-  pub next_moment : (a b c : D) (P : List ℕ → Type 0) → SameHonesty disk a b → AtAnyMoment disk a b P → AtAnyMoment disk b c P → AtAnyMoment disk a c P
+  pub next_moment : (a b c : D) (P : List ℕ → Type 0) → SameHonesty disk a b → AtAnyMoment disk a b P →
+      AtAnyMoment disk b c P → AtAnyMoment disk a c P
   next_moment a b c P same first second = λ h. leaves_then disk.moment disk.crash_states_since a b c P (first h) (second (same.0 h))
 
   pub honest_on : (a b c : D) → SameHonesty disk a b → SameHonesty disk b c → SameHonesty disk a c

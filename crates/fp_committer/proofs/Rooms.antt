@@ -1,5 +1,6 @@
 -- A store over the steps of compactions, and how few of them are left.
-use Rattle.std.proofs.Common.{◌≡◌, ◌≢◌, ◌<◌, ◌≤◌, ◌+◌, ◌-◌, ◌*◌, ◌^◌, ℕ, suc, true, false, [], ◌∷◌, ◌++◌, refl, sym, ap, subst, ◌∙◌, inl, inr, arith, append-nil}
+use Rattle.std.proofs.Common.{◌≡◌, ◌≢◌, ◌<◌, ◌≤◌, ◌+◌, ◌-◌, ◌*◌, ◌^◌, ℕ, suc, true, false, [], ◌∷◌, ◌++◌, refl, sym, ap}
+use Rattle.std.proofs.Common.{subst, ◌∙◌, inl, inr, arith, append-nil}
 use Rattle.std.specs.Prelude.{◌↔◌, Bool, IsTrue, length, nat_le, nat_lt}
 use Rattle.std.proofs.Math.Nat.{suc-mul}
 use borrow.Author.Tests.{leb-true, leb-false}
@@ -54,7 +55,8 @@ module _ {D : Type 0} (disk : Ghosts D) where
     sealed = refl;
     staged = refl;
     phase = refl;
-    any_moment = λ h. leaves_still disk.moment disk.crash_states_since a.disk (λ c. StandsFor c (sealed_set a)) (λ c left. keeps h c (only_now a.disk c h left));
+    any_moment = λ h. leaves_still disk.moment disk.crash_states_since a.disk (λ c. StandsFor c (sealed_set a))
+        (λ c left. keeps h c (only_now a.disk c h left));
     now = keeps;
     honest = (λ h. h, λ h. h);
   }
@@ -67,7 +69,8 @@ module _ {D : Type 0} (disk : Ghosts D) where
         staged = k.staged ∙ h.staged;
         phase = k.phase ∙ h.phase;
         any_moment = next_moment disk a.disk b.disk c.disk (λ o. StandsFor o (sealed_set a)) h.honest h.any_moment
-            (weaker disk b.disk c.disk (λ o. StandsFor o (sealed_set b)) (λ o. StandsFor o (sealed_set a)) (λ o stands. subst (λ (s : State). StandsFor o s) same stands) k.any_moment);
+            (weaker disk b.disk c.disk (λ o. StandsFor o (sealed_set b)) (λ o. StandsFor o (sealed_set a))
+            (λ o stands. subst (λ (s : State). StandsFor o s) same stands) k.any_moment);
         now = k.now;
         honest = honest_on disk a.disk b.disk c.disk h.honest k.honest;
       }
@@ -98,14 +101,16 @@ module _ {D : Type 0} (disk : Ghosts D) where
   }
 
   -- and one that broke off
-  pub breaks_step : (a b : StoreState D) → MakesSome (calls_of a.compaction.next a.may_open) (disk.calls a.disk) (disk.calls b.disk) → BreaksOff disk a b
+  pub breaks_step : (a b : StoreState D) →
+      MakesSome (calls_of a.compaction.next a.may_open) (disk.calls a.disk) (disk.calls b.disk) → BreaksOff disk a b
   breaks_step a b calls = record {
     works = [];
     next = a.compaction.next;
     last = compaction_step a.compaction.next a.may_open;
     lead = refl;
     may = refl;
-    calls = subst (λ l. MakesSome (calls_of a.compaction.next a.may_open) l (disk.calls b.disk)) (sym (append-nil (disk.calls a.disk))) calls;
+    calls = subst (λ l. MakesSome (calls_of a.compaction.next a.may_open) l (disk.calls b.disk))
+        (sym (append-nil (disk.calls a.disk))) calls;
   }
 
 -- ---- how many are left
@@ -129,7 +134,8 @@ work_left s = (2 ^ 64 - s.compaction.generation) * (IMAGE_PLACE + s.store.start.
 worth : (r most : ℕ) → r * (most + 9) + (most + 8) < suc r * (most + 9) + 1
 worth r most = grind (arith, suc-mul)
 
-falls_at : (p : Step) (left next g h most : ℕ) → (p ≢ Begin → next ≡ next_left p left) → (p ≡ Begin → next + 1 ≤ most) → (p ≢ SyncOpen → h ≡ g) → (p ≡ SyncOpen → h ≡ g + 1) → h < 2 ^ 64
+falls_at : (p : Step) (left next g h most : ℕ) → (p ≢ Begin → next ≡ next_left p left) →
+    (p ≡ Begin → next + 1 ≤ most) → (p ≢ SyncOpen → h ≡ g) → (p ≡ SyncOpen → h ≡ g + 1) → h < 2 ^ 64
     → (2 ^ 64 - h) * (most + 9) + steps_left (next_step p left) next most < (2 ^ 64 - g) * (most + 9) + steps_left p left most
 falls_at p left next g h most stays begun same turned small = grind (arith, worth)
 
@@ -140,12 +146,15 @@ falls faults a b store c =
     let fell = falls_at a.compaction.next a.compaction.left b.compaction.left a.compaction.generation b.compaction.generation most c.left
     (λ at. let p = c.begun at in let head = p.head in let small = p.small in let left = p.left in omega (arith, head, small, left))
     (λ on. (c.slots_stay on).1) (λ at. (c.slots_turn at).1) c.numbered in
-    subst (λ (q : Step). (2 ^ 64 - b.compaction.generation) * (IMAGE_PLACE + b.store.start.limit + 9) + steps_left q b.compaction.left (IMAGE_PLACE + b.store.start.limit) < work_left a) (sym c.next)
-    (subst (λ (m : ℕ). (2 ^ 64 - b.compaction.generation) * (m + 9) + steps_left (next_step a.compaction.next a.compaction.left) b.compaction.left m < work_left a) (sym limit) fell)
+    subst (λ (q : Step). (2 ^ 64 - b.compaction.generation) * (IMAGE_PLACE + b.store.start.limit + 9) + steps_left q
+    b.compaction.left (IMAGE_PLACE + b.store.start.limit) < work_left a) (sym c.next)
+    (subst (λ (m : ℕ). (2 ^ 64 - b.compaction.generation) * (m + 9) + steps_left
+    (next_step a.compaction.next a.compaction.left) b.compaction.left m < work_left a) (sym limit) fell)
 
 -- ---- where a step may not be taken
 -- none runs, and no generation is left
-pub used_up : {D : Type 0} (s : StoreState D) → s.phase ≡ Idle → (MayCompact s → ⊥) → (s.compaction.next ≡ Begin) × (2 ^ 64 ≤ s.compaction.generation + 1)
+pub used_up : {D : Type 0} (s : StoreState D) → s.phase ≡ Idle → (MayCompact s → ⊥) → (s.compaction.next ≡ Begin) ×
+    (2 ^ 64 ≤ s.compaction.generation + 1)
 used_up s idle never = (begins, large)
   where
     nothing_else : (p : Step) → ((p ≡ Begin → ⊥) → ⊥) → p ≡ Begin
@@ -155,19 +164,32 @@ used_up s idle never = (begins, large)
     begins = nothing_else s.compaction.next (λ not. never (record { next = λ b. absurd (not b); still = λ t. idle }))
 
     large : 2 ^ 64 ≤ s.compaction.generation + 1
-    large = elim (nat_lt (s.compaction.generation + 1) (2 ^ 64)) as (λ t. nat_lt (s.compaction.generation + 1) (2 ^ 64) ≡ t → 2 ^ 64 ≤ s.compaction.generation + 1) [
-      | true ↦ λ e. absurd (never (record { next = λ _. leb-true _ _ e; still = λ t. idle }))
-      | false ↦ λ e. (let no = leb-false _ _ e in omega (arith, no))
-    ] refl
+    large = elim (nat_lt (s.compaction.generation + 1) (2 ^ 64)) as
+        (λ t. nat_lt (s.compaction.generation + 1) (2 ^ 64) ≡ t → 2 ^ 64 ≤ s.compaction.generation + 1) [
+          | true ↦ λ e. absurd (never (record { next = λ _. leb-true _ _ e; still = λ t. idle }))
+          | false ↦ λ e. (let no = leb-false _ _ e in omega (arith, no))
+        ] refl
 
 -- there is no room, though none runs
-pub no_room : {D : Type 0} (s : StoreState D) (group : Group) (b : Bool) → (IsTrue b ↔ HasRoom s group) → b ≡ false → s.compaction.next ≡ Begin → 0 < length group.changes → length group.changes ≤ 64 → HasNoRoom s group
+pub no_room : {D : Type 0} (s : StoreState D) (group : Group) (b : Bool) → (IsTrue b ↔ HasRoom s group) → b ≡ false →
+    s.compaction.next ≡ Begin → 0 < length group.changes → length group.changes ≤ 64 → HasNoRoom s group
 no_room s group b says not begins some few =
     elim (nat_le (batch_len group) s.most) as (λ t. nat_le (batch_len group) s.most ≡ t → HasNoRoom s group) [
       | false ↦ λ e. inl (leb-false _ _ e)
       | true ↦ λ e. elim (nat_le (batch_len group + 6) s.room) as (λ t. nat_le (batch_len group + 6) s.room ≡ t → HasNoRoom s group) [
         | false ↦ λ f. let narrow = leb-false _ _ f in inr (inl (omega (arith, narrow)))
         | true ↦ λ f. inr (inr (λ allowed.
-            let both : false ≡ true = sym not ∙ says.1 (record { some = some; few = few; short = leb-true _ _ e; fits = leb-true _ _ f; early = subst (λ (x : Step). IsEarly x) (sym begins) tt; tail = λ runs. absurd (subst (λ (x : Step). HasBegun x) begins runs); allowed = allowed }) in absurd cc))
+            let both : false ≡ true = sym not ∙
+            says.1 (record {
+              some = some;
+              few = few;
+              short = leb-true _ _ e;
+              fits = leb-true _ _ f;
+              early =
+                  subst (λ (x : Step). IsEarly x) (sym begins) tt;
+              tail =
+                  λ runs. absurd (subst (λ (x : Step). HasBegun x) begins runs);
+              allowed = allowed;
+            }) in absurd cc))
       ] refl
     ] refl

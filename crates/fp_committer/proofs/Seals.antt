@@ -1,6 +1,7 @@
 -- A batch's four calls, one event after another, each where it is due, and the steps of a compaction
 -- that make room for it.
-use Rattle.std.proofs.Common.{◌≡◌, ◌≢◌, ◌⊎◌, ◌<◌, ◌≤◌, ◌+◌, ◌^◌, ℕ, true, false, List, [], ◌∷◌, Ok, Err, refl, sym, ap, subst, ◌∙◌, inl, inr}
+use Rattle.std.proofs.Common.{◌≡◌, ◌≢◌, ◌⊎◌, ◌<◌, ◌≤◌, ◌+◌, ◌^◌, ℕ, true, false, List, [], ◌∷◌, Ok, Err, refl, sym, ap}
+use Rattle.std.proofs.Common.{subst, ◌∙◌, inl, inr}
 use Rattle.std.specs.Prelude.{IfErr, OnErr, OnOk, Result}
 use Rattle.fp_disk.specs.Crashes.{EachCrash}
 use Rattle.fp_disk.specs.History.{MakesSome}
@@ -41,13 +42,16 @@ module _ (May : Way → Type 0) (to : Progress) where
   went a old new is does = (subst (λ (x : Answer). Advances May to old x new) is does).2
 
   -- where it was due and wasn't done, the device failed
-  pub broke : (kind : CallKind) (a : Answer) (old new : Way) (before now : ℕ) (calls more : List CallKind) → a ≢ answer.Done → Advances May to old a new → old.failed ≡ false → May old → RisesFor a before now → MakesOne kind a calls more
+  pub broke : (kind : CallKind) (a : Answer) (old new : Way) (before now : ℕ) (calls more : List CallKind) →
+      a ≢ answer.Done → Advances May to old a new → old.failed ≡ false → May old → RisesFor a before now →
+      MakesOne kind a calls more
       → (before < now) × MakesSome (kind ∷ []) calls more
   broke kind answer.NotNow old new before now calls more not does well may rises made = absurd (does.1 may)
   broke kind answer.Memory old new before now calls more not does well may rises made = absurd does
   broke kind (answer.Refused f) old new before now calls more not does well may rises made = absurd does
   broke kind (answer.Fault fault.Device) old new before now calls more not does well may rises made = (rises, made)
-  broke kind (answer.Fault fault.Failed) old new before now calls more not does well may rises made = let both : true ≡ false = sym does.0 ∙ well in absurd cc
+  broke kind (answer.Fault fault.Failed) old new before now calls more not does well may rises made =
+      let both : true ≡ false = sym does.0 ∙ well in absurd cc
   broke kind (answer.Fault fault.Memory) old new before now calls more not does well may rises made = absurd does
   broke kind (answer.Fault fault.Stranger) old new before now calls more not does well may rises made = absurd does
   broke kind (answer.Ticket n) old new before now calls more not does well may rises made = absurd does
@@ -61,17 +65,22 @@ module _ (May : Way → Type 0) (to : Progress) where
 
 -- ---- and seals it
 module _ (t : Taken) where
-  pub sealed : (a : Answer) (revision : ℕ) (old new : Way) → a ≡ answer.Sealed revision → Seals t old a new → (new.progress ≡ batch_sealed) × (new.failed ≡ old.failed) × (new.compaction.next ≡ old.compaction.next)
+  pub sealed : (a : Answer) (revision : ℕ) (old new : Way) → a ≡ answer.Sealed revision → Seals t old a new →
+      (new.progress ≡ batch_sealed) × (new.failed ≡ old.failed) × (new.compaction.next ≡ old.compaction.next)
   sealed a revision old new is does =
-      let at = (subst (λ (x : Answer). Seals t old x new) is does).5 in (ap (λ (w : Way). w.progress) at, ap (λ (w : Way). w.failed) at, ap (λ (w : Way). w.compaction.next) at)
+      let at = (subst (λ (x : Answer). Seals t old x new) is does).5 in
+      (ap (λ (w : Way). w.progress) at, ap (λ (w : Way). w.failed) at, ap (λ (w : Way). w.compaction.next) at)
 
-  pub unsealed : (a : Answer) (old new : Way) (before now : ℕ) (calls more : List CallKind) → ((n : ℕ) → a ≢ answer.Sealed n) → Seals t old a new → old.failed ≡ false → old.progress ≡ gate_opened → RisesFor a before now → MakesOne Sync a calls more
+  pub unsealed : (a : Answer) (old new : Way) (before now : ℕ) (calls more : List CallKind) →
+      ((n : ℕ) → a ≢ answer.Sealed n) → Seals t old a new → old.failed ≡ false → old.progress ≡ gate_opened →
+      RisesFor a before now → MakesOne Sync a calls more
       → (before < now) × MakesSome (Sync ∷ []) calls more
   unsealed answer.NotNow old new before now calls more not does well may rises made = absurd (does.1 may)
   unsealed answer.Memory old new before now calls more not does well may rises made = absurd does
   unsealed (answer.Refused f) old new before now calls more not does well may rises made = absurd does
   unsealed (answer.Fault fault.Device) old new before now calls more not does well may rises made = (rises, made)
-  unsealed (answer.Fault fault.Failed) old new before now calls more not does well may rises made = let both : true ≡ false = sym does.0 ∙ well in absurd cc
+  unsealed (answer.Fault fault.Failed) old new before now calls more not does well may rises made =
+      let both : true ≡ false = sym does.0 ∙ well in absurd cc
   unsealed (answer.Fault fault.Memory) old new before now calls more not does well may rises made = absurd does
   unsealed (answer.Fault fault.Stranger) old new before now calls more not does well may rises made = absurd does
   unsealed (answer.Ticket n) old new before now calls more not does well may rises made = absurd does
@@ -111,7 +120,8 @@ none_held held.InFlight p at = absurd (flying_out p at)
 none_held (held.Sealed receipt) p at = absurd cc
 
 -- ---- steps of a compaction beside it
-module _ {D : Type 0} (disk : Ghosts D) {h : Held} {s : StoreState D} {half : HalfState} (w : IsStoreHalf disk.honest disk.unsynced h s half) where
+module _ {D : Type 0} (disk : Ghosts D) {h : Held} {s : StoreState D} {half : HalfState}
+    (w : IsStoreHalf disk.honest disk.unsynced h s half) where
   -- with no batch on its way a crash leaves what is sealed
   pub rests : s.phase ≡ Idle → EachCrash disk s.disk (λ c. StandsFor c (sealed_set s))
   rests idle = λ honest c out. idle_keeps s idle c (w.now honest c out)
@@ -120,10 +130,12 @@ module _ {D : Type 0} (disk : Ghosts D) {h : Held} {s : StoreState D} {half : Ha
   pub stays_half : (n : StoreState D) → StaysAt disk s n → IsStoreHalf disk.honest disk.unsynced h n half
   stays_half n k = stood disk.honest disk.unsynced w n k.phase (k.store, k.sealed, k.staged) (λ honest c out. inl (k.now honest c out))
 
-  pub stays_calls : (n : StoreState D) → StaysAt disk s n → (p q : Progress) → CallsOn disk (Half s p (changes_held h s) half) (Half n q (changes_held h n) half)
+  pub stays_calls : (n : StoreState D) → StaysAt disk s n → (p q : Progress) →
+      CallsOn disk (Half s p (changes_held h s) half) (Half n q (changes_held h n) half)
   stays_calls n k p q = record {
     same = (refl, held_same s n h k.staged, k.store);
-    any_moment = weaker disk s.disk n.disk (λ c. StandsFor c (sealed_set s)) (Kept n half) (λ c stands. kept_then disk w n k.store c (inl stands)) k.any_moment;
+    any_moment = weaker disk s.disk n.disk (λ c. StandsFor c (sealed_set s)) (Kept n half)
+        (λ c stands. kept_then disk w n k.store c (inl stands)) k.any_moment;
     exit = kept_now disk (stays_half n k);
     honest = k.honest;
   }
@@ -142,25 +154,33 @@ abbrev pub IsUsedUp : {D : Type 0} → Ghosts D → StoreState D → StoreState 
 IsUsedUp disk a b group f = (f ≡ StoreFailed) × Proceeds disk a b × (2 ^ 64 ≤ b.compaction.generation + 1)
     × EachCrash disk b.disk (λ c. IsFullFor c (sealed_set b) group b.compaction.generation)
 
-module _ {D : Type 0} (disk : Ghosts D) (s n : StoreState D) (half : HalfState) (group : Group) (o : IsOut (held.Drawn group) s half.settled) where
+module _ {D : Type 0} (disk : Ghosts D) (s n : StoreState D) (half : HalfState) (group : Group)
+    (o : IsOut (held.Drawn group) s half.settled) where
   pub lacks : IsUsedUp disk s n group StoreFailed → LacksRoom disk (Half n batch_drawn group.changes half)
   lacks full =
-      let set : sealed_set n ≡ after_all n.store.start half.settled = ap (λ (l : List Change). after_all n.store.start l) (full.1.stays.sealed ∙ o.1) in record {
+      let set : sealed_set n ≡ after_all n.store.start half.settled =
+      ap (λ (l : List Change). after_all n.store.start l) (full.1.stays.sealed ∙ o.1) in record {
         drawn = refl;
         last = full.2;
-        full = λ h c out. (let f = subst (λ (u : State). IsFullFor c u group n.compaction.generation) set (full.3 h c out) in record { stands = f.stands; full = f.full; generation_is = f.generation_is });
+        full = λ h c out. (let f = subst (λ (u : State). IsFullFor c u group n.compaction.generation) set
+            (full.3 h c out) in record { stands = f.stands; full = f.full; generation_is = f.generation_is });
       }
 
-  pub no_room_made : (p : Progress) (l : List Change) (r : Result (Unit {0}) CommitFault) → IfErr r (λ f. Halts disk s n f ⊎ IsUsedUp disk s n group f) → IfErr r (HasCause disk (Half s p l half) (Half n batch_drawn group.changes half))
+  pub no_room_made : (p : Progress) (l : List Change) (r : Result (Unit {0}) CommitFault) →
+      IfErr r (λ f. Halts disk s n f ⊎ IsUsedUp disk s n group f) →
+      IfErr r (HasCause disk (Half s p l half) (Half n batch_drawn group.changes half))
   no_room_made p l (Ok x) h = tt
   no_room_made p l (Err f) (inl h) = inl (halted disk s n f h)
   no_room_made p l (Err f) (inr full) = inr (full.0, lacks (refl, full.1, full.2, full.3), full.1.no_failure)
 
-pub broke_off : {D : Type 0} (disk : Ghosts D) (s n : StoreState D) (group : Group) (r : Result (Unit {0}) CommitFault) → IfErr r (λ f. Halts disk s n f ⊎ IsUsedUp disk s n group f) → OnErr r (BreaksOff disk s n)
+pub broke_off : {D : Type 0} (disk : Ghosts D) (s n : StoreState D) (group : Group)
+    (r : Result (Unit {0}) CommitFault) → IfErr r (λ f. Halts disk s n f ⊎ IsUsedUp disk s n group f) →
+    OnErr r (BreaksOff disk s n)
 broke_off disk s n group (Ok x) h = tt
 broke_off disk s n group (Err f) (inl h) = h.works
 broke_off disk s n group (Err f) (inr full) = works_break disk s n full.1.works
 
-pub stayed : {D : Type 0} (disk : Ghosts D) (s n : StoreState D) (group : Group) (f : CommitFault) → Halts disk s n f ⊎ IsUsedUp disk s n group f → StaysAt disk s n
+pub stayed : {D : Type 0} (disk : Ghosts D) (s n : StoreState D) (group : Group) (f : CommitFault) →
+    Halts disk s n f ⊎ IsUsedUp disk s n group f → StaysAt disk s n
 stayed disk s n group f (inl h) = h.stays
 stayed disk s n group f (inr full) = full.1.stays

@@ -5,7 +5,8 @@ use Rattle.fp_committer.specs.Course.{Course, Passes}
 use Rattle.fp_committer.specs.StoreHalf.{StoreHalfState}
 
 module _ {D : Type 0} (disk : Ghosts D) where
-  passes_then : (a b c : StoreHalfState D) (xs ys : List (StoreHalfState D)) → Passes disk a xs b → Passes disk b ys c → Passes disk a (xs ++ ys) c
+  passes_then : (a b c : StoreHalfState D) (xs ys : List (StoreHalfState D)) → Passes disk a xs b →
+      Passes disk b ys c → Passes disk a (xs ++ ys) c
   passes_then a b c [] ys h k = subst (λ (x : StoreHalfState D). Passes disk x ys c) h k
   passes_then a b c (x ∷ xs) ys h k = (h.0, passes_then x b c xs ys h.1 k)
 

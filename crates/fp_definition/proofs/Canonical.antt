@@ -14,5 +14,6 @@ unfolding is_text_of
 is_text_of-compact_text text d valid same = rw (valid, same) (bytes_eq-itself (compact_text d))
 
 -- a definition's canonical text is one, where it is read as this definition
-pub is_definition_text-compact_text : (text : List ℕ) (d : Data) → json_of text ≡ Some d → IsValid d → text ≡ compact_text d → is_definition_text text ≡ true
+pub is_definition_text-compact_text : (text : List ℕ) (d : Data) → json_of text ≡ Some d → IsValid d →
+    text ≡ compact_text d → is_definition_text text ≡ true
 is_definition_text-compact_text text d reads valid same = ap (is_text_of_some text) reads ∙ is_text_of-compact_text text d valid same

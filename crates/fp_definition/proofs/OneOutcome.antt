@@ -17,7 +17,8 @@ use Rattle.fp_definition.specs.declared.resolving.EvalFault.TheVariants.{Disable
 abbrev pub IsComputed : Rule → Type 0
 IsComputed r = (env x : value.Data) → Means r env x ↔ (x ≡ meaning env r)
 
-of_rule : (d : Data) (r : Option Rule) (env : value.Data) (o : Result Said EvalFault) → IfSome r IsComputed → ByRule d r env o ↔ (o ≡ by_rule d r env)
+of_rule : (d : Data) (r : Option Rule) (env : value.Data) (o : Result Said EvalFault) → IfSome r IsComputed →
+    ByRule d r env o ↔ (o ≡ by_rule d r env)
 of_rule d None env o computed = (λ h. h, λ h. h)
 of_rule d (Some r) env o computed =
     (λ h. h.2 ∙ ap (λ x. by_result d x) ((computed env h.0).0 h.1), λ e. (meaning env r, (computed env (meaning env r)).1 refl, e))

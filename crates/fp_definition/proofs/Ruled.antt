@@ -22,7 +22,8 @@ unfolding targeting_tests
 without-met [] h = refl
 without-met (m ∷ ms) h = absurd (cc)
 
-with : (ms : List Entry) (r : Rule) → (length ms ≡ 0 → ⊥) → verdict (object (tree_members ms)) ≡ Ok r → rule_in (Some (object (tree_members ms))) ≡ Some r
+with : (ms : List Entry) (r : Rule) → (length ms ≡ 0 → ⊥) → verdict (object (tree_members ms)) ≡ Ok r →
+    rule_in (Some (object (tree_members ms))) ≡ Some r
 unfolding rule_in
 with [] r h accepted = absurd (h refl)
 with (m ∷ ms) r h accepted = ap result_ok accepted

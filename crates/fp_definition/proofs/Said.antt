@@ -1,5 +1,6 @@
 -- What is said of a variant, and which outcomes a definition resolves to, as they are spelled.
-use Rattle.std.proofs.Common.{◌≡◌, ℕ, List, ◌∷◌, Bool, true, false, true≢false, Option, Some, None, Result, Ok, Err, codes, option_map, refl, sym, ap, ap₂, subst}
+use Rattle.std.proofs.Common.{◌≡◌, ℕ, List, ◌∷◌, Bool, true, false, true≢false, Option, Some, None, Result, Ok, Err}
+use Rattle.std.proofs.Common.{codes, option_map, refl, sym, ap, ap₂, subst}
 use Rattle.std.proofs.lemmas.Option.{none-some}
 use Rattle.std.specs.Ordering.{match_ordering, nat_cmp}
 use Rattle.std.specs.Cmp.Lexicographic.{slice_cmp}
@@ -19,10 +20,12 @@ use Rattle.fp_targeting.specs.Rule.{Rule}
 use Rattle.fp_targeting.specs.Means.{Means}
 use Rattle.fp_targeting.specs.RuleData.{rule_data}
 use Rattle.fp_definition.specs.Choice.{MeetsTests}
-use Rattle.fp_definition.specs.Resolving.{Said, Spelling, Resolves, Spells, Tells, TellsItself, by_default, by_result, is_disabled, outcome_spelled, said_or_none, spelled_by, spelling}
+use Rattle.fp_definition.specs.Resolving.{Said, Spelling, Resolves, Spells, Tells, TellsItself, by_default, by_result}
+use Rattle.fp_definition.specs.Resolving.{is_disabled, outcome_spelled, said_or_none, spelled_by, spelling}
 use Rattle.fp_definition.specs.Spelled.{AreAt, AreNoted, IsAt, texts}
 use Rattle.fp_definition.specs.Targeting.{rule_in}
-use Rattle.fp_definition.specs.Valid.{Fault, not_object, bad_state, bad_variants, bad_default, bad_metadata, are_variants, is_state, is_metadata, member_tests, names_variant, targeting_tests}
+use Rattle.fp_definition.specs.Valid.{Fault, not_object, bad_state, bad_variants, bad_default, bad_metadata}
+use Rattle.fp_definition.specs.Valid.{are_variants, is_state, is_metadata, member_tests, names_variant, targeting_tests}
 use Rattle.fp_definition.specs.declared.resolving.EvalFault.{EvalFault}
 use Rattle.fp_definition.specs.declared.resolving.EvalFault.TheVariants.{Disabled, NoVariant, Memory}
 use Rattle.fp_definition.specs.declared.resolving.Reason.{Reason}
@@ -49,21 +52,24 @@ get_texts k no_members = refl
 get_texts k (member l d ms) = by (slice_cmp nat_cmp k l) (get_texts k ms)
   where
     by : (o : Ordering) → get_member k (texts ms) ≡ option_map text_of (get_member k ms)
-        → match_ordering o (get_member k (texts ms)) (Some (text_of d)) (get_member k (texts ms)) ≡ option_map text_of (match_ordering o (get_member k ms) (Some d) (get_member k ms))
+        → match_ordering o (get_member k (texts ms)) (Some (text_of d)) (get_member k (texts ms)) ≡ option_map
+        text_of (match_ordering o (get_member k ms) (Some d) (get_member k ms))
     by Less h = h
     by Equal h = refl
     by Greater h = h
 
 -- ---- what is said of a variant
 
-pub said_found : (o : Option Data) (name v x : List ℕ) (reason : Reason) → Some (string x) ≡ option_map text_of o → v ≡ name → outcome_spelled (said_or_none name reason o) ≡ Ok (v, x, reason)
+pub said_found : (o : Option Data) (name v x : List ℕ) (reason : Reason) → Some (string x) ≡ option_map text_of o →
+    v ≡ name → outcome_spelled (said_or_none name reason o) ≡ Ok (v, x, reason)
 said_found None name v x reason h same = absurd (none-some (string x) (sym h))
 said_found (Some d) name v x reason h same = ap₂ (λ n t. Ok (n, t, reason)) (sym same) (sym (inner x (compact_text d) h))
   where
     inner : (s t : List ℕ) → Some (string s) ≡ Some (string t) → s ≡ t
     inner s t e = cc
 
-pub said_none : (o : Option Data) (name : List ℕ) (reason : Reason) → None ≡ option_map text_of o → outcome_spelled (said_or_none name reason o) ≡ Err NoVariant
+pub said_none : (o : Option Data) (name : List ℕ) (reason : Reason) → None ≡ option_map text_of o →
+    outcome_spelled (said_or_none name reason o) ≡ Err NoVariant
 said_none None name reason h = refl
 said_none (Some d) name reason h = absurd (none-some (text_of d) h)
 
@@ -86,7 +92,8 @@ spells (Err Disabled) (Err e) Has h is = subst (λ f. Has (Err f)) (ap (err_or e
 spells (Err NoVariant) (Err e) Has h is = subst (λ f. Has (Err f)) (ap (err_or e) is) h
 spells (Err Memory) (Err e) Has h is = tt
 
-pub spells_weaker : (r : Result Resolved EvalFault) (Has Other : Result Said EvalFault → Type 0) → ((o : Result Said EvalFault) → Has o → Other o)
+pub spells_weaker : (r : Result Resolved EvalFault) (Has Other : Result Said EvalFault → Type 0) →
+    ((o : Result Said EvalFault) → Has o → Other o)
     → Answers spelled_by Tells r (Spells Has) → Answers spelled_by Tells r (Spells Other)
 spells_weaker (Ok r) Has Other f h = (h.0, f (Ok h.0) h.1, h.2)
 spells_weaker (Err Disabled) Has Other f h = f (Err Disabled) h
@@ -107,7 +114,8 @@ step : (b : Bool) (f : Fault) (rest : List (Bool × Fault)) → first_failed ((b
 step true f rest h = (refl, h)
 step false f rest h = absurd (none-some f (sym h))
 
-all_met : (a b c e f : Bool) (u v w x y : Fault) (rest : List (Bool × Fault)) → first_failed ((a, u) ∷ (b, v) ∷ (c, w) ∷ (e, x) ∷ (f, y) ∷ rest) ≡ None
+all_met : (a b c e f : Bool) (u v w x y : Fault) (rest : List (Bool × Fault)) →
+    first_failed ((a, u) ∷ (b, v) ∷ (c, w) ∷ (e, x) ∷ (f, y) ∷ rest) ≡ None
     → (a ≡ true) × (b ≡ true) × (c ≡ true) × (e ≡ true) × (f ≡ true)
 all_met a b c e f u v w x y rest h =
     let one = step a u ((b, v) ∷ (c, w) ∷ (e, x) ∷ (f, y) ∷ rest) h in
@@ -144,7 +152,8 @@ turned : (p : Option Place) (o : Option Data) (R : Place → Type 0) → MatchOp
 turned None o R h = sym h
 turned (Some p) o R h = h
 
-chosen_of : (ms : Members) (text : List ℕ) (vs : List Variant) (p : Option Place) → MeetsTests (object ms) → IsOrdered (object ms) → AreNoted text (Some vs) p no_members ms → IsChosen (object ms) text vs p
+chosen_of : (ms : Members) (text : List ℕ) (vs : List Variant) (p : Option Place) → MeetsTests (object ms) →
+    IsOrdered (object ms) → AreNoted text (Some vs) p no_members ms → IsChosen (object ms) text vs p
 chosen_of ms text vs p tested ordered noted =
     let v = the_variants (get_member (codes "variants") ms) tested.variants in record {
       members = v.0;
@@ -154,7 +163,8 @@ chosen_of ms text vs p tested ordered noted =
       metadata = turned p (get_member (codes "metadata") ms) (λ q. IsAt text q (get_member (codes "metadata") ms)) noted.metadata;
     }
 
-pub chosen_is : (d : Data) (text : List ℕ) (vs : List Variant) (p : Option Place) → MeetsTests d → IsOrdered d → ((ms : Members) → d ≡ object ms → AreNoted text (Some vs) p no_members ms) → IsChosen d text vs p
+pub chosen_is : (d : Data) (text : List ℕ) (vs : List Variant) (p : Option Place) → MeetsTests d → IsOrdered d →
+    ((ms : Members) → d ≡ object ms → AreNoted text (Some vs) p no_members ms) → IsChosen d text vs p
 chosen_is (object ms) text vs p tested ordered noted = chosen_of ms text vs p tested ordered (noted ms refl)
 chosen_is null text vs p tested ordered noted = absurd (true≢false (sym tested.members))
 chosen_is (boolean b) text vs p tested ordered noted = absurd (true≢false (sym tested.members))

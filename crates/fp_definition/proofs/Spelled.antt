@@ -1,5 +1,7 @@
 -- Places in a text that grows.
-use Rattle.std.proofs.Common.{◌≡◌, ◌-◌, ℕ, List, [], ◌∷◌, ◌++◌, Bool, true, false, Option, Some, None, codes, length, take, take_all, drop, slice_range, string_bytes, refl, sym, ap, ap₂, subst, ◌∙◌, arith, length-append, append_assoc, true≢false, option_map, Vec, Global}
+use Rattle.std.proofs.Common.{◌≡◌, ◌-◌, ℕ, List, [], ◌∷◌, ◌++◌, Bool, true, false, Option, Some, None, codes, length}
+use Rattle.std.proofs.Common.{take, take_all, drop, slice_range, string_bytes, refl, sym, ap, ap₂, subst, ◌∙◌, arith}
+use Rattle.std.proofs.Common.{length-append, append_assoc, true≢false, option_map, Vec, Global}
 use Rattle.std.proofs.Math.Seq.{drop-append_seam}
 use Rattle.std.proofs.lemmas.List.{drop-append-le, length-drop, take-append-le}
 use Rattle.std.proofs.lemmas.Slice.Eq.{bytes_eq-Decides}
@@ -24,7 +26,8 @@ pub within_more : (text more : List ℕ) (p : Place) → IsWithin text p → IsW
 within_more text more p within = (within.0, omega (arith, within, length-append text more))
 
 -- what was put behind a text stands behind it
-pub at_new : (old new bytes : List ℕ) (p : Place) → new ≡ old ++ bytes → p.start ≡ length old → p.end ≡ length new → (at new p ≡ bytes) × IsWithin new p
+pub at_new : (old new bytes : List ℕ) (p : Place) → new ≡ old ++ bytes → p.start ≡ length old → p.end ≡ length new →
+    (at new p ≡ bytes) × IsWithin new p
 at_new old new bytes p same start end =
     let long = ap length same ∙ length-append old bytes in (
       ap (λ xs. slice_range xs p.start p.end) same ∙ ap (λ n. take (p.end - n) (drop n (old ++ bytes))) start
@@ -34,7 +37,8 @@ at_new old new bytes p same start end =
 
 -- ---- variants
 
-pub spelled_more : (text more : List ℕ) (vs : List Variant) (rest : Members) → AreWithin text vs → spelled (text ++ more) vs rest ≡ spelled text vs rest
+pub spelled_more : (text more : List ℕ) (vs : List Variant) (rest : Members) → AreWithin text vs →
+    spelled (text ++ more) vs rest ≡ spelled text vs rest
 spelled_more text more [] rest h = refl
 spelled_more text more (v ∷ vs) rest h =
     ap₂ (λ x ms. member (string_bytes v.name) (string x) ms) (at_more text more v.value h.0) (spelled_more text more vs rest h.1)
@@ -43,12 +47,18 @@ pub all_more : (text more : List ℕ) (vs : List Variant) → AreWithin text vs 
 all_more text more [] h = tt
 all_more text more (v ∷ vs) h = (within_more text more v.value h.0, all_more text more vs h.1)
 
-pub spelled_push : (text : List ℕ) (vs : List Variant) (v : Variant) (rest : Members) → spelled text (vs ++ v ∷ []) rest ≡ spelled text vs (member (string_bytes v.name) (string (at text v.value)) rest)
+pub spelled_push : (text : List ℕ) (vs : List Variant) (v : Variant) (rest : Members) →
+    spelled text (vs ++ v ∷ []) rest ≡ spelled text vs (member (string_bytes v.name) (string (at text v.value)) rest)
 spelled_push text [] v rest = refl
 spelled_push text (w ∷ vs) v rest = ap (member (string_bytes w.name) (string (at text w.value))) (spelled_push text vs v rest)
 
 in_more : (text more : List ℕ) (vs : List Variant) (found : Option Data) → AreIn text vs found → AreIn (text ++ more) vs found
-in_more text more vs found h ms is = let a = h ms is in record { spelled = spelled_more text more vs no_members a.within ∙ a.spelled; within = all_more text more vs a.within }
+in_more text more vs found h ms is = let a = h ms is in
+    record {
+      spelled = spelled_more text more vs no_members a.within ∙ a.spelled;
+      within =
+          all_more text more vs a.within;
+    }
 
 at_all_more : (text more : List ℕ) (p : Place) (found : Option Data) → IsAt text p found → IsAt (text ++ more) p found
 at_all_more text more p found h = (h.0, h.1, at_more text more p h.3 ∙ h.2, within_more text more p h.3)
@@ -96,29 +106,48 @@ other k v w apart same = ap (λ l. bytes_eq l w) ((bytes_eq-Decides k v).0 same)
 apart : (b c : Bool) → b ≡ false → (b && c) ≡ false
 apart b c h = ap (λ x. x && c) h
 
-module _ (old bytes : List ℕ) (variants : Option (List Variant)) (metadata : Option Place) (k : List ℕ) (d : Data) (left all : Members) where
+module _ (old bytes : List ℕ) (variants : Option (List Variant)) (metadata : Option Place) (k : List ℕ) (d : Data)
+    (left all : Members) where
   pub noted_variants : (vs : List Variant) → bytes_eq k (codes "variants") ≡ true → variants ≡ None → AreIn (old ++ bytes) vs (Some d)
       → AreNoted old variants metadata (member k d left) all → AreNoted (old ++ bytes) (Some vs) metadata left all
   noted_variants vs same none there h = record {
-    variants = subst (AreIn (old ++ bytes) vs) (sym (here (codes "variants") k d left all same (subst (λ o. MatchOption o (get_member (codes "variants") (member k d left) ≡ get_member (codes "variants") all) (λ ws. AreIn old ws (get_member (codes "variants") all))) none h.variants))) there;
-    metadata = later (codes "metadata") k d left all metadata _ (apart _ _ (other k (codes "variants") (codes "metadata") refl same)) (known metadata _ _ _ (λ p. at_all_more old bytes p _) h.metadata);
+    variants = subst (AreIn (old ++ bytes) vs)
+        (sym (here (codes "variants") k d left all same
+        (subst (λ o. MatchOption o (get_member (codes "variants") (member k d left) ≡ get_member (codes "variants")
+        all) (λ ws. AreIn old ws (get_member (codes "variants") all))) none h.variants))) there;
+    metadata = later (codes "metadata") k d left all metadata _
+        (apart _ _ (other k (codes "variants") (codes "metadata") refl same))
+        (known metadata _ _ _ (λ p. at_all_more old bytes p _) h.metadata);
   }
 
-  pub noted_metadata : (p : Place) → bytes_eq k (codes "metadata") ≡ true → metadata ≡ None → at (old ++ bytes) p ≡ compact_text d → IsWithin (old ++ bytes) p
+  pub noted_metadata : (p : Place) → bytes_eq k (codes "metadata") ≡ true → metadata ≡ None →
+      at (old ++ bytes) p ≡ compact_text d → IsWithin (old ++ bytes) p
       → AreNoted old variants metadata (member k d left) all → AreNoted (old ++ bytes) variants (Some p) left all
   noted_metadata p same none there within h = record {
-    variants = later (codes "variants") k d left all variants _ (apart _ _ (other k (codes "metadata") (codes "variants") refl same)) (known variants _ _ _ (λ vs. in_more old bytes vs _) h.variants);
-    metadata = (d, here (codes "metadata") k d left all same (subst (λ o. MatchOption o (get_member (codes "metadata") (member k d left) ≡ get_member (codes "metadata") all) (λ q. IsAt old q (get_member (codes "metadata") all))) none h.metadata), there, within);
+    variants = later (codes "variants") k d left all variants _
+        (apart _ _ (other k (codes "metadata") (codes "variants") refl same))
+        (known variants _ _ _ (λ vs. in_more old bytes vs _) h.variants);
+    metadata = (
+      d,
+      here (codes "metadata") k d left all same
+          (subst (λ o. MatchOption o (get_member (codes "metadata") (member k d left) ≡ get_member (codes "metadata")
+          all) (λ q. IsAt old q (get_member (codes "metadata") all))) none h.metadata),
+      there,
+      within,
+    );
   }
 
-  pub noted_other : (bytes_eq k (codes "variants") && not (is_some variants)) ≡ false → (bytes_eq k (codes "metadata") && not (is_some metadata)) ≡ false
+  pub noted_other : (bytes_eq k (codes "variants") && not (is_some variants)) ≡ false →
+      (bytes_eq k (codes "metadata") && not (is_some metadata)) ≡ false
       → AreNoted old variants metadata (member k d left) all → AreNoted (old ++ bytes) variants metadata left all
   noted_other one two h = record {
     variants = later (codes "variants") k d left all variants _ one (known variants _ _ _ (λ vs. in_more old bytes vs _) h.variants);
     metadata = later (codes "metadata") k d left all metadata _ two (known metadata _ _ _ (λ p. at_all_more old bytes p _) h.metadata);
   }
 
-pub noted_more : (old bytes : List ℕ) (variants : Option (List Variant)) (metadata : Option Place) (left all : Members) → AreNoted old variants metadata left all → AreNoted (old ++ bytes) variants metadata left all
+pub noted_more : (old bytes : List ℕ) (variants : Option (List Variant)) (metadata : Option Place)
+    (left all : Members) → AreNoted old variants metadata left all →
+    AreNoted (old ++ bytes) variants metadata left all
 noted_more old bytes variants metadata left all h = record {
   variants = known variants _ _ _ (λ vs. in_more old bytes vs _) h.variants;
   metadata = known metadata _ _ _ (λ p. at_all_more old bytes p _) h.metadata;
@@ -130,7 +159,8 @@ pub none_noted : (o : Option (Vec Variant Global)) → not (is_some o) ≡ true 
 none_noted None h = refl
 none_noted (Some v) h = absurd (true≢false (sym h))
 
-pub is_noted : (k w : List ℕ) (o : Option (Vec Variant Global)) → (bytes_eq k w && not (is_some o)) ≡ false → (bytes_eq k w && not (is_some (option_map (λ v. v.items) o))) ≡ false
+pub is_noted : (k w : List ℕ) (o : Option (Vec Variant Global)) → (bytes_eq k w && not (is_some o)) ≡ false →
+    (bytes_eq k w && not (is_some (option_map (λ v. v.items) o))) ≡ false
 is_noted k w None h = h
 is_noted k w (Some v) h = h
 

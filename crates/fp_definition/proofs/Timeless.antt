@@ -19,4 +19,5 @@ by_rule-timeless d (Some r) h key context now later = ap (by_result d) (h contex
 pub outcome-timeless : (d : Data) → IfSome (rule_in (get (codes "targeting") d)) RuleIsTimeless → IsTimeless d
 unfolding outcome_of
 outcome-timeless d h key context now later =
-    ap (λ o. if is_disabled (get (codes "state") d) then Err Disabled else o) (by_rule-timeless d (rule_in (get (codes "targeting") d)) h key context now later)
+    ap (λ o. if is_disabled (get (codes "state") d) then Err Disabled else o)
+    (by_rule-timeless d (rule_in (get (codes "targeting") d)) h key context now later)

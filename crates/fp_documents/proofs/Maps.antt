@@ -1,5 +1,7 @@
 -- The sets that a map's entries make: after an insert, a removal and a write, and in order.
-use Rattle.std.proofs.Common.{◌≡◌, T, ◌&&◌, ℕ, List, [], ◌∷◌, ◌++◌, map, length, Ordering, Less, Equal, Greater, Some, None, cond, Bool, true, false, is_eq, is_some, refl, sym, ap, ap₂, subst, ◌∙◌, append_assoc}
+use Rattle.std.proofs.Common.{◌≡◌, T, ◌&&◌, ℕ, List, [], ◌∷◌, ◌++◌, map, length, Ordering, Less, Equal, Greater, Some}
+use Rattle.std.proofs.Common.{None, cond, Bool, true, false, is_eq, is_some, refl, sym, ap, ap₂, subst, ◌∙◌}
+use Rattle.std.proofs.Common.{append_assoc}
 use Rattle.std.specs.Ordering.{match_ordering, eq_by_cmp, is_lt}
 use Rattle.std.specs.Map.{lookup, remove_entry, set_value, keys_of}
 use Rattle.std.specs.List.{AllByRecursion}
@@ -32,19 +34,23 @@ find-mapped (e ∷ es) q = ap (cond (is_eq (bytes_cmp q (key_bytes e.0))) (Some 
 pub get-flags_of : (es : List Entry) (q : List ℕ) → fin.get (flags_of es) q ≡ lookup (is_at (λ k. bytes_cmp q (key_bytes k))) es
 get-flags_of es q = fin.get-from_entries nat_list_cmp_total (map entry_of es) q ∙ find-mapped es q
 
-map_ordered : (o : Ordering) (a b c : List Entry) → map entry_of (match_ordering o a b c) ≡ by_order o (map entry_of a) (map entry_of b) (map entry_of c)
+map_ordered : (o : Ordering) (a b c : List Entry) →
+    map entry_of (match_ordering o a b c) ≡ by_order o (map entry_of a) (map entry_of b) (map entry_of c)
 map_ordered Less a b c = refl
 map_ordered Equal a b c = refl
 map_ordered Greater a b c = refl
 
-mapped_insert : (es : List Entry) (k : FlagKey) (f : Flag) → map entry_of (insert_entry flag_cmp es k f) ≡ put bytes_cmp (key_bytes k) f (map entry_of es)
+mapped_insert : (es : List Entry) (k : FlagKey) (f : Flag) →
+    map entry_of (insert_entry flag_cmp es k f) ≡ put bytes_cmp (key_bytes k) f (map entry_of es)
 mapped_insert [] k f = refl
 mapped_insert (e ∷ es) k f =
     map_ordered (flag_cmp k e.0) ((k, f) ∷ e ∷ es) ((e.0, f) ∷ es) (e ∷ insert_entry flag_cmp es k f)
-    ∙ ap (λ r. by_order (flag_cmp k e.0) (entry_of (k, f) ∷ entry_of e ∷ map entry_of es) (entry_of (e.0, f) ∷ map entry_of es) (entry_of e ∷ r)) (mapped_insert es k f)
+    ∙ ap (λ r. by_order (flag_cmp k e.0) (entry_of (k, f) ∷ entry_of e ∷ map entry_of es)
+    (entry_of (e.0, f) ∷ map entry_of es) (entry_of e ∷ r)) (mapped_insert es k f)
 
 -- after an insert
-pub flags_of-insert : (es : List Entry) (k : FlagKey) (f : Flag) → flags_of (insert_entry flag_cmp es k f) ≡ fin.insert (flags_of es) (key_bytes k) f
+pub flags_of-insert : (es : List Entry) (k : FlagKey) (f : Flag) →
+    flags_of (insert_entry flag_cmp es k f) ≡ fin.insert (flags_of es) (key_bytes k) f
 flags_of-insert es k f = fin.same_map nat_list_cmp_total exact_bytes _ _ (λ q.
     fin.get-from_entries nat_list_cmp_total (map entry_of (insert_entry flag_cmp es k f)) q
     ∙ ap (find bytes_cmp q) (mapped_insert es k f)
@@ -56,7 +62,9 @@ map_cond : (b : Bool) (x y : List Entry) → map entry_of (cond b x y) ≡ cond 
 map_cond true x y = refl
 map_cond false x y = refl
 
-mapped_remove : (es : List Entry) (q : List ℕ) → map entry_of (remove_entry (is_at (λ k. bytes_cmp q (key_bytes k))) es) ≡ remove_entry (is_at (bytes_cmp q)) (map entry_of es)
+mapped_remove : (es : List Entry) (q : List ℕ) →
+    map entry_of (remove_entry (is_at (λ k. bytes_cmp q (key_bytes k))) es) ≡ remove_entry (is_at (bytes_cmp q))
+    (map entry_of es)
 mapped_remove [] q = refl
 mapped_remove (e ∷ es) q =
     map_cond (is_eq (bytes_cmp q (key_bytes e.0))) es (e ∷ remove_entry (is_at (λ k. bytes_cmp q (key_bytes k))) es)
@@ -72,7 +80,8 @@ both : (a b : Bool) → T a → T b → T (a && b)
 both true b p q = q
 both false b p q = p
 
-below : (e : Entry) (es : List Entry) → AllByRecursion (λ y. flag_cmp e.0 y ≡ Less) (keys_of es) → T (below_all bytes_cmp (key_bytes e.0) (map entry_of es))
+below : (e : Entry) (es : List Entry) → AllByRecursion (λ y. flag_cmp e.0 y ≡ Less) (keys_of es) →
+    T (below_all bytes_cmp (key_bytes e.0) (map entry_of es))
 below e [] h = tt
 below e (x ∷ es) h = both _ _ (subst (λ o. T (is_lt o)) (sym h.0) tt) (below e es h.1)
 
@@ -81,7 +90,8 @@ unfolding IsStrictlySortedBy
 is_sorted-mapped [] h = tt
 is_sorted-mapped (e ∷ es) h = both _ _ (below e es h.0) (is_sorted-mapped es h.1)
 
-below_keys : (k : List ℕ) (es : List (List ℕ × Flag)) → T (below_all bytes_cmp k es) → AllByRecursion (λ y. bytes_cmp k y ≡ Less) (keys_of es)
+below_keys : (k : List ℕ) (es : List (List ℕ × Flag)) → T (below_all bytes_cmp k es) →
+    AllByRecursion (λ y. bytes_cmp k y ≡ Less) (keys_of es)
 below_keys k [] h = tt
 below_keys k (e ∷ es) h = (less _ (first _ _ h), below_keys k es (second _ _ h))
 
@@ -102,14 +112,19 @@ flags_of-remove es k h = fin.same_map nat_list_cmp_total exact_bytes _ _ (λ q.
     fin.get-from_entries nat_list_cmp_total (map entry_of (remove_entry (is_at (flag_cmp k)) es)) q
     ∙ ap (find bytes_cmp q) (mapped_remove es (key_bytes k))
     ∙ find_is_lookup (remove_entry (is_at (bytes_cmp (key_bytes k))) (map entry_of es)) q
-    ∙ lookup-remove_entry (eq_by_cmp_equiv nat_list_cmp_total) (is_at (bytes_cmp (key_bytes k))) (one_key (key_bytes k)) q (map entry_of es) (IsDistinct-from_sorted bytes_cmp _ (sorted_keys _ (is_sorted-mapped es h)))
+    ∙ lookup-remove_entry (eq_by_cmp_equiv nat_list_cmp_total) (is_at (bytes_cmp (key_bytes k)))
+    (one_key (key_bytes k)) q (map entry_of es)
+    (IsDistinct-from_sorted bytes_cmp _ (sorted_keys _ (is_sorted-mapped es h)))
     ∙ sym (fin.get-remove nat_list_cmp_total (flags_of es) (key_bytes k) q
     ∙ ap (λ b. cond b None (fin.get (flags_of es) q)) ((eq_by_cmp_equiv nat_list_cmp_total).symm q (key_bytes k))
-    ∙ ap (cond (eq_by_cmp bytes_cmp (key_bytes k) q) None) (fin.get-from_entries nat_list_cmp_total (map entry_of es) q ∙ find_is_lookup (map entry_of es) q)))
+    ∙ ap (cond (eq_by_cmp bytes_cmp (key_bytes k) q) None)
+    (fin.get-from_entries nat_list_cmp_total (map entry_of es) q ∙ find_is_lookup (map entry_of es) q)))
 
 -- ---- a flag in the place of another one
 
-mapped_set : (es : List Entry) (q : List ℕ) (f : Flag) → map entry_of (set_value (is_at (λ k. bytes_cmp q (key_bytes k))) es f) ≡ set_value (is_at (bytes_cmp q)) (map entry_of es) f
+mapped_set : (es : List Entry) (q : List ℕ) (f : Flag) →
+    map entry_of (set_value (is_at (λ k. bytes_cmp q (key_bytes k))) es f) ≡ set_value (is_at (bytes_cmp q))
+    (map entry_of es) f
 mapped_set [] q f = refl
 mapped_set (e ∷ es) q f =
     map_cond (is_eq (bytes_cmp q (key_bytes e.0))) ((e.0, f) ∷ es) (e ∷ set_value (is_at (λ k. bytes_cmp q (key_bytes k))) es f)
@@ -124,7 +139,8 @@ flags_of-set es k f there =
     fin.get-from_entries nat_list_cmp_total (map entry_of (set_value (is_at (flag_cmp k)) es f)) q
     ∙ ap (find bytes_cmp q) (mapped_set es (key_bytes k) f)
     ∙ find_is_lookup (set_value (is_at (bytes_cmp (key_bytes k))) (map entry_of es) f) q
-    ∙ lookup-set_value (eq_by_cmp_equiv nat_list_cmp_total) (is_at (bytes_cmp (key_bytes k))) (one_key (key_bytes k)) q f (map entry_of es) (ap is_some (sym (found (key_bytes k))) ∙ there)
+    ∙ lookup-set_value (eq_by_cmp_equiv nat_list_cmp_total) (is_at (bytes_cmp (key_bytes k))) (one_key (key_bytes k))
+    q f (map entry_of es) (ap is_some (sym (found (key_bytes k))) ∙ there)
     ∙ sym (fin.get-insert nat_list_cmp_total (flags_of es) (key_bytes k) f q
     ∙ ap (λ b. cond b (Some f) (fin.get (flags_of es) q)) ((eq_by_cmp_equiv nat_list_cmp_total).symm q (key_bytes k))
     ∙ ap (cond (eq_by_cmp bytes_cmp (key_bytes k) q) (Some f)) (found q)))
@@ -144,7 +160,8 @@ len-flags_of es h = fin.len-entries (flags_of es) ∙ ap length (entries-flags_o
 
 -- ---- a copy, made of pairs in order
 
-keys_above : (e : Entry) (es : List Entry) → T (below_all bytes_cmp (key_bytes e.0) (map entry_of es)) → AllByRecursion (λ y. flag_cmp e.0 y ≡ Less) (keys_of es)
+keys_above : (e : Entry) (es : List Entry) → T (below_all bytes_cmp (key_bytes e.0) (map entry_of es)) →
+    AllByRecursion (λ y. flag_cmp e.0 y ≡ Less) (keys_of es)
 keys_above e [] h = tt
 keys_above e (x ∷ es) h = (less _ (first _ _ h), keys_above e es (second _ _ h))
 
@@ -163,5 +180,8 @@ copied_more es e k f rest all named same h =
     ∙ h
 
 -- a map that is made at once of pairs in order has these pairs
-pub entries-collected : (xs : List Entry) (n : BTreeMap FlagKey Flag) → IsFromIterResult flag_cmp xs n → T (is_sorted bytes_cmp (map entry_of xs)) → map entry_of n.entries ≡ map entry_of xs
-entries-collected xs n made sorted = in-order (on_total key_bytes nat_list_cmp_total) key_bytes (λ x y h. exact_bytes (key_bytes x) (key_bytes y) h) xs n made (sorted-mapped xs sorted)
+pub entries-collected : (xs : List Entry) (n : BTreeMap FlagKey Flag) → IsFromIterResult flag_cmp xs n →
+    T (is_sorted bytes_cmp (map entry_of xs)) → map entry_of n.entries ≡ map entry_of xs
+entries-collected xs n made sorted =
+    in-order (on_total key_bytes nat_list_cmp_total) key_bytes (λ x y h. exact_bytes (key_bytes x) (key_bytes y) h)
+    xs n made (sorted-mapped xs sorted)

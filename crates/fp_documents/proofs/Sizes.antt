@@ -1,5 +1,6 @@
 -- The size and the count of a set after an insert and a removal.
-use Rattle.std.proofs.Common.{◌≡◌, ◌<◌, ◌≤◌, T, ◌&&◌, ℕ, ◌+◌, List, [], ◌∷◌, length, Ordering, Less, Equal, Greater, Option, Some, None, cond, Bool, true, false, is_eq, refl, sym, ap, ◌∙◌, arith}
+use Rattle.std.proofs.Common.{◌≡◌, ◌<◌, ◌≤◌, T, ◌&&◌, ℕ, ◌+◌, List, [], ◌∷◌, length, Ordering, Less, Equal, Greater}
+use Rattle.std.proofs.Common.{Option, Some, None, cond, Bool, true, false, is_eq, refl, sym, ap, ◌∙◌, arith}
 use Rattle.std.specs.Ordering.{eq_by_cmp, is_lt}
 use Rattle.std.specs.Cmp.{Equal-is}
 use Rattle.std.proofs.lemmas.Cmp.{nat_list_cmp_total, tied_itself}
@@ -26,7 +27,8 @@ less Equal p = absurd p
 less Greater p = absurd p
 
 -- a key that is below x, which is below all of the entries, isn't found among them
-pub find_below : (k x : List ℕ) (es : List (List ℕ × Flag)) → bytes_cmp k x ≡ Less → T (below_all bytes_cmp x es) → find bytes_cmp k es ≡ None
+pub find_below : (k x : List ℕ) (es : List (List ℕ × Flag)) → bytes_cmp k x ≡ Less → T (below_all bytes_cmp x es) →
+    find bytes_cmp k es ≡ None
 find_below k x [] p h = refl
 find_below k x (e ∷ es) p h =
     let here : bytes_cmp k e.0 ≡ Less = nat_list_cmp_total.trans k x e.0 p (less _ (first _ _ h)) in
@@ -60,13 +62,18 @@ removed_some m k f some = (
 )
 
 -- a sum over entries, after an insert: what was there goes out of it, and what is comes into it
-module _ (w : List ℕ × Flag → ℕ) (sum : List (List ℕ × Flag) → ℕ) (step : (e : List ℕ × Flag) (es : List (List ℕ × Flag)) → sum (e ∷ es) ≡ w e + sum es)
-    (found : List ℕ → Option Flag → ℕ) (none : (k : List ℕ) → found k None ≡ 0) (some : (k : List ℕ) (f : Flag) → found k (Some f) ≡ w (k, f)) where
-  sum-put : (k : List ℕ) (f : Flag) (es : List (List ℕ × Flag)) → T (is_sorted bytes_cmp es) → sum (put bytes_cmp k f es) + found k (find bytes_cmp k es) ≡ sum es + w (k, f)
+module _ (w : List ℕ × Flag → ℕ) (sum : List (List ℕ × Flag) → ℕ)
+    (step : (e : List ℕ × Flag) (es : List (List ℕ × Flag)) → sum (e ∷ es) ≡ w e + sum es)
+    (found : List ℕ → Option Flag → ℕ) (none : (k : List ℕ) → found k None ≡ 0)
+    (some : (k : List ℕ) (f : Flag) → found k (Some f) ≡ w (k, f)) where
+  sum-put : (k : List ℕ) (f : Flag) (es : List (List ℕ × Flag)) → T (is_sorted bytes_cmp es) →
+      sum (put bytes_cmp k f es) + found k (find bytes_cmp k es) ≡ sum es + w (k, f)
   sum-put k f [] h = let one = step (k, f) [] in let gone = none k in omega arith
   sum-put k f (e ∷ es) h =
       let here = step e es in
-      elim (bytes_cmp k e.0) as (λ r. bytes_cmp k e.0 ≡ r → sum (by_order r ((k, f) ∷ e ∷ es) ((e.0, f) ∷ es) (e ∷ put bytes_cmp k f es)) + found k (cond (is_eq r) (Some e.1) (find bytes_cmp k es)) ≡ sum (e ∷ es) + w (k, f)) [
+      elim (bytes_cmp k e.0) as (λ r. bytes_cmp k e.0 ≡ r →
+      sum (by_order r ((k, f) ∷ e ∷ es) ((e.0, f) ∷ es) (e ∷ put bytes_cmp k f es)) + found k
+      (cond (is_eq r) (Some e.1) (find bytes_cmp k es)) ≡ sum (e ∷ es) + w (k, f)) [
         | Less ↦ λ p. let gone = none k in let more = step (k, f) (e ∷ es) in rw (find_below k e.0 es p (first _ _ h)) (omega arith)
         | Equal ↦ λ p.
             let is : e.0 ≡ k = sym (exact_bytes k e.0 p) in
@@ -74,11 +81,14 @@ module _ (w : List ℕ × Flag → ℕ) (sum : List (List ℕ × Flag) → ℕ) 
             let new : w (e.0, f) ≡ w (k, f) = ap (λ q. w (q, f)) is in
             let more = step (e.0, f) es in
             let was = some k e.1 in omega arith
-        | Greater ↦ λ p. let rest = sum-put k f es (second (below_all bytes_cmp e.0 es) (is_sorted bytes_cmp es) h) in let more = step e (put bytes_cmp k f es) in omega arith
+        | Greater ↦ λ p. let rest = sum-put k f es (second (below_all bytes_cmp e.0 es) (is_sorted bytes_cmp es) h)
+            in let more = step e (put bytes_cmp k f es) in omega arith
       ] refl
 
-  pub sum-insert : (m : Flags) (k : List ℕ) (f : Flag) → sum (fin.entries (fin.insert m k f)) + found k (fin.get m k) ≡ sum (fin.entries m) + w (k, f)
-  sum-insert m k f = rw (fin.entries-insert nat_list_cmp_total m k f, fin.get-entries m k) (sum-put k f (fin.entries m) (fin.entries_sorted m))
+  pub sum-insert : (m : Flags) (k : List ℕ) (f : Flag) →
+      sum (fin.entries (fin.insert m k f)) + found k (fin.get m k) ≡ sum (fin.entries m) + w (k, f)
+  sum-insert m k f = rw (fin.entries-insert nat_list_cmp_total m k f, fin.get-entries m k)
+      (sum-put k f (fin.entries m) (fin.entries_sorted m))
 
   -- a removal takes what was there
   pub sum-remove : (m : Flags) (k : List ℕ) → sum (fin.entries (fin.remove m k)) + found k (fin.get m k) ≡ sum (fin.entries m)
@@ -105,10 +115,12 @@ abbrev no_flags : Flags
 no_flags = fin.empty
 
 pub size-empty : size no_flags ≡ 4
-size-empty = ap (λ es. 4 + total_cost es) (nil_from_length (fin.entries no_flags) (sym (fin.len-entries no_flags) ∙ fin.len-empty bytes_cmp Flag))
+size-empty = ap (λ es. 4 + total_cost es)
+    (nil_from_length (fin.entries no_flags) (sym (fin.len-entries no_flags) ∙ fin.len-empty bytes_cmp Flag))
 
 -- the size of the flags with one more, from that of the one that it replaces
-pub resized : (m : Flags) (k : List ℕ) (f : Flag) (kept spent before : ℕ) → kept ≡ size m → spent ≡ cost (k, f) → before ≡ cost_found k (fin.get m k)
+pub resized : (m : Flags) (k : List ℕ) (f : Flag) (kept spent before : ℕ) → kept ≡ size m → spent ≡ cost (k, f) →
+    before ≡ cost_found k (fin.get m k)
     → (kept + spent ≡ size (fin.insert m k f) + before)
 resized m k f kept spent before p q r = let all = size-insert m k f in omega arith
 

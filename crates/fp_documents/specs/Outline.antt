@@ -83,7 +83,8 @@ pub record IsPlaceOf (p : Place) (d : Document) (es : List (List ℕ × Flag)) :
   pub within : p.at + p.len ≤ length d.text.items
   pub counted : p.index < length d.lengths.items
   pub outlines : (e : Document) (new : List ℕ) → new ≡ part p.later (key_bytes p.key.now, p.flag.now)
-      → e.text.items ≡ splice d.text.items p.at (p.at + p.len) new → e.lengths.items ≡ slice_set d.lengths.items p.index (length new) → Outlines e es
+      → e.text.items ≡ splice d.text.items p.at (p.at + p.len) new →
+      e.lengths.items ≡ slice_set d.lengths.items p.index (length new) → Outlines e es
 
 -- a flag that was changed since a document stands at the place of one that had another key
 abbrev pub HasNewKey : Document → List (List ℕ × Flag) → Type 0

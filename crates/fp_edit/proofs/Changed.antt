@@ -1,5 +1,6 @@
 -- The revisions that changed a set's flags, after an insert and after all parts of a change.
-use Rattle.std.proofs.Common.{◌≡◌, ℕ, ◌≤◌, List, [], ◌∷◌, Option, Some, None, cond, Bool, true, false, unwrap_or, is_some, sym, ap, subst, ◌∙◌, true≢false, arith}
+use Rattle.std.proofs.Common.{◌≡◌, ℕ, ◌≤◌, List, [], ◌∷◌, Option, Some, None, cond, Bool, true, false, unwrap_or}
+use Rattle.std.proofs.Common.{is_some, sym, ap, subst, ◌∙◌, true≢false, arith}
 use Rattle.std.specs.Ordering.{eq_by_cmp}
 use Rattle.std.proofs.lemmas.Cmp.{nat_list_cmp_total}
 use Rattle.std.specs.FinMap as fin
@@ -12,7 +13,8 @@ use Rattle.fp_documents.specs.declared.flags.Flag.{Flag}
 abbrev pub AreChangedBy : ℕ → Flags → Type 0
 AreChangedBy r m = (k : List ℕ) (f : Flag) → fin.get m k ≡ Some f → IsChangedBy r f
 
-after_insert : (b : Bool) (o : Option Flag) (r : ℕ) (v f : Flag) → (o ≡ Some f → IsChangedBy r f) → IsChangedBy r v → cond b (Some v) o ≡ Some f → IsChangedBy r f
+after_insert : (b : Bool) (o : Option Flag) (r : ℕ) (v f : Flag) → (o ≡ Some f → IsChangedBy r f) → IsChangedBy r v →
+    cond b (Some v) o ≡ Some f → IsChangedBy r f
 after_insert true o r v f was now e = let same : v ≡ f = ap (λ x. unwrap_or x v) e in subst (IsChangedBy r) same now
 after_insert false o r v f was now e = was e
 
@@ -21,10 +23,14 @@ after_remove true o r f was e = absurd (true≢false (sym (ap is_some e)))
 after_remove false o r f was e = was e
 
 pub changed-insert : (r : ℕ) (m : Flags) (k : List ℕ) (v : Flag) → AreChangedBy r m → IsChangedBy r v → AreChangedBy r (fin.insert m k v)
-changed-insert r m k v was now q f e = after_insert (eq_by_cmp bytes_cmp q k) (fin.get m q) r v f (was q f) now (sym (fin.get-insert nat_list_cmp_total m k v q) ∙ e)
+changed-insert r m k v was now q f e =
+    after_insert (eq_by_cmp bytes_cmp q k) (fin.get m q) r v f (was q f) now
+    (sym (fin.get-insert nat_list_cmp_total m k v q) ∙ e)
 
 changed-remove : (r : ℕ) (m : Flags) (k : List ℕ) → AreChangedBy r m → AreChangedBy r (fin.remove m k)
-changed-remove r m k was q f e = after_remove (eq_by_cmp bytes_cmp q k) (fin.get m q) r f (was q f) (sym (fin.get-remove nat_list_cmp_total m k q) ∙ e)
+changed-remove r m k was q f e =
+    after_remove (eq_by_cmp bytes_cmp q k) (fin.get m q) r f (was q f)
+    (sym (fin.get-remove nat_list_cmp_total m k q) ∙ e)
 
 -- at a later revision too
 pub changed-later : (r s : ℕ) (m : Flags) → r ≤ s → AreChangedBy r m → AreChangedBy s m

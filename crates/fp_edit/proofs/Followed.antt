@@ -1,5 +1,6 @@
 -- Changes that follow one another, and edits taken one by one.
-use Rattle.std.proofs.Common.{◌≡◌, ◌<◌, ◌+◌, ◌^◌, ℕ, Bool, true, false, cond, List, [], ◌∷◌, ◌++◌, length, map, take, drop, suc, add-one, get_or, None, Some, refl, sym, ap, subst, ◌∙◌, arith}
+use Rattle.std.proofs.Common.{◌≡◌, ◌<◌, ◌+◌, ◌^◌, ℕ, Bool, true, false, cond, List, [], ◌∷◌, ◌++◌, length, map, take}
+use Rattle.std.proofs.Common.{drop, suc, add-one, get_or, None, Some, refl, sym, ap, subst, ◌∙◌, arith}
 use Rattle.std.proofs.lemmas.Bool.{and_from, and_parts, ltb-true}
 use Rattle.std.proofs.lemmas.List.{nil_from_length, take-append-drop, map-append}
 use Rattle.std.proofs.Math.Seq.{take-suc}
@@ -37,7 +38,8 @@ follows_front s [] ys f = tt
 follows_front s (x ∷ xs) ys f = (f.0, follows_front (next s x) xs ys f.1)
 
 -- ---- tests that are met
-met_first : (b : Bool) (f : EditFault) (ts : List (Bool × EditFault)) → cond b (first_failed ts) (Some f) ≡ None → (b ≡ true) × (first_failed ts ≡ None)
+met_first : (b : Bool) (f : EditFault) (ts : List (Bool × EditFault)) → cond b (first_failed ts) (Some f) ≡ None →
+    (b ≡ true) × (first_failed ts ≡ None)
 met_first true f ts h = (refl, h)
 met_first false f ts h = absurd cc
 
@@ -65,7 +67,8 @@ AreExpected s ps = AllByRecursion (λ (p : ProposedPart). is_as_expected s p ≡
 pub all_expected : (s : State) (at : ℕ) (ps : List ProposedPart) → first_failed (keys_from s at ps) ≡ None → AreExpected s ps
 all_expected s at [] h = tt
 all_expected s at (p ∷ ps) h =
-    let here = met_first (is_as_expected s p) (ConflictIn at (present s p)) (keys_from s (suc at) ps) h in (here.0, all_expected s (suc at) ps here.1)
+    let here = met_first (is_as_expected s p) (ConflictIn at (present s p)) (keys_from s (suc at) ps) h in
+    (here.0, all_expected s (suc at) ps here.1)
 
 pub from_all_expected : (s : State) (at : ℕ) (ps : List ProposedPart) → AreExpected s ps → first_failed (keys_from s at ps) ≡ None
 from_all_expected s at [] h = refl
@@ -121,7 +124,8 @@ follows_small s (x ∷ xs) small f =
     let rest : s.revision + 1 + length xs < 2 ^ 63 = follows_small (next s x) xs here f.1 in omega (arith, rest)
 
 -- ---- a walk over edits
-pub taken_more : (xs : List Edit) (i : ℕ) (e : Edit) → i < length xs → e ≡ get_or xs i e → changes_of (take (i + 1) xs) ≡ changes_of (take i xs) ++ change_of e ∷ []
+pub taken_more : (xs : List Edit) (i : ℕ) (e : Edit) → i < length xs → e ≡ get_or xs i e →
+    changes_of (take (i + 1) xs) ≡ changes_of (take i xs) ++ change_of e ∷ []
 taken_more xs i e lt is =
     let more : take (suc i) xs ≡ take i xs ++ e ∷ [] = take-suc xs i e lt ∙ ap (λ (x : Edit). take i xs ++ x ∷ []) (sym is) in
     ap (λ (n : ℕ). changes_of (take n xs)) (add-one i) ∙ ap changes_of more ∙ map-append change_of (take i xs) (e ∷ [])
@@ -136,10 +140,15 @@ module _ (s : State) (xs : List Edit) (i : ℕ) (e : Edit) (lt : i < length xs) 
   pub one_after : after_all s (changes_of (take (i + 1) xs)) ≡ next (after_all s (changes_of (take i xs))) (change_of e)
   one_after = ap (λ (l : List Change). after_all s l) (taken_more xs i e lt is) ∙ after-append s (changes_of (take i xs)) (change_of e ∷ [])
 
-  pub one_follows : Follows s (changes_of (take i xs)) → refusal (after_all s (changes_of (take i xs))) (unconditional (change_of e)) ≡ None → Follows s (changes_of (take (i + 1) xs))
-  one_follows f h = subst (λ (l : List Change). Follows s l) (sym (taken_more xs i e lt is)) (follows_join s (changes_of (take i xs)) (change_of e ∷ []) f (h, tt))
+  pub one_follows : Follows s (changes_of (take i xs)) →
+      refusal (after_all s (changes_of (take i xs))) (unconditional (change_of e)) ≡ None →
+      Follows s (changes_of (take (i + 1) xs))
+  one_follows f h = subst (λ (l : List Change). Follows s l) (sym (taken_more xs i e lt is))
+      (follows_join s (changes_of (take i xs)) (change_of e ∷ []) f (h, tt))
 
   pub one_accepted : Follows s (changes_of xs) → refusal (after_all s (changes_of (take i xs))) (unconditional (change_of e)) ≡ None
   one_accepted all =
-      let here = follows_front s (changes_of (take (i + 1) xs)) (changes_of (drop (i + 1) xs)) (subst (λ (l : List Change). Follows s l) (all_taken xs (i + 1)) all) in
-      (follows_behind s (changes_of (take i xs)) (change_of e ∷ []) (subst (λ (l : List Change). Follows s l) (taken_more xs i e lt is) here)).0
+      let here = follows_front s (changes_of (take (i + 1) xs)) (changes_of (drop (i + 1) xs))
+      (subst (λ (l : List Change). Follows s l) (all_taken xs (i + 1)) all) in
+      (follows_behind s (changes_of (take i xs)) (change_of e ∷ [])
+      (subst (λ (l : List Change). Follows s l) (taken_more xs i e lt is) here)).0

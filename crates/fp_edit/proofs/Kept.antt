@@ -14,7 +14,8 @@ use Rattle.fp_documents.specs.declared.flags.TheConstants.{IMAGE_HEAD}
 use Rattle.fp_edit.proofs.Changed.{changed-empty, changed-insert, changed-later, changed-parts}
 use Rattle.fp_documents.proofs.Sizes.{size-empty, size-remove, count-remove}
 
-pub kept-insert : (m : Flags) (r s limit kept : ℕ) (k : List ℕ) (f : Flag) → IsTallied m r limit kept → r ≤ s → s < REVISIONS_END → IsChangedBy s f → is_within (fin.insert m k f) limit ≡ true
+pub kept-insert : (m : Flags) (r s limit kept : ℕ) (k : List ℕ) (f : Flag) → IsTallied m r limit kept → r ≤ s →
+    s < REVISIONS_END → IsChangedBy s f → is_within (fin.insert m k f) limit ≡ true
     → IsTallied (fin.insert m k f) s limit (size (fin.insert m k f))
 kept-insert m r s limit kept k f was later some here room = record {
   size = refl;
@@ -37,16 +38,22 @@ none-put r m (delete k ∷ ps) h =
 -- a change that there is room for leads to no larger set than the limits allow
 module _ (s : State) (c : Change) (room : has_room s c ≡ true) where
   -- it is within them, or it puts no flag and is no larger than it was
-  within_or_less : (is_within (flags_after s c) s.limit ≡ true) ⊎ (size (flags_after s c) ≤ size s.flags) × (fin.len (flags_after s c) ≤ fin.len s.flags)
+  within_or_less : (is_within (flags_after s c) s.limit ≡ true) ⊎ (size (flags_after s c) ≤ size s.flags) ×
+      (fin.len (flags_after s c) ≤ fin.len s.flags)
   within_or_less =
-      elim (any_put (parts c)) as (λ b. any_put (parts c) ≡ b → cond b (is_within (flags_after s c) s.limit) true ≡ true → (is_within (flags_after s c) s.limit ≡ true) ⊎ (size (flags_after s c) ≤ size s.flags) × (fin.len (flags_after s c) ≤ fin.len s.flags)) [
+      elim (any_put (parts c)) as (λ b. any_put (parts c) ≡ b →
+      cond b (is_within (flags_after s c) s.limit) true ≡ true →
+      (is_within (flags_after s c) s.limit ≡ true) ⊎ (size (flags_after s c) ≤ size s.flags) ×
+      (fin.len (flags_after s c) ≤ fin.len s.flags)) [
         | true ↦ λ e r. inl r
         | false ↦ λ e r. inr (none-put (s.revision + 1) s.flags (parts c) e)
       ] refl room
 
   -- what bounds its size and its limit bounds it then
   pub size_room : (n : ℕ) → size s.flags ≤ n → s.limit ≤ n → size (flags_after s c) ≤ n
-  size_room n small limited = ⊎_elim (λ fits. let within : size (flags_after s c) ≤ s.limit = leb-true _ _ (and_parts _ _ fits).1 in omega arith) (λ less. omega arith) within_or_less
+  size_room n small limited = ⊎_elim
+      (λ fits. let within : size (flags_after s c) ≤ s.limit = leb-true _ _ (and_parts _ _ fits).1 in omega arith)
+      (λ less. omega arith) within_or_less
 
   few_room : fin.len s.flags ≤ MOST_FLAGS → fin.len (flags_after s c) ≤ MOST_FLAGS
   few_room few = ⊎_elim (λ fits. leb-true _ _ (and_parts _ _ fits).0) (λ less. omega arith) within_or_less
@@ -60,7 +67,8 @@ module _ (s : State) (c : Change) (room : has_room s c ≡ true) where
         few = few_room was.few;
         numbered = ltb-true _ _ more;
         within = λ h. let within = was.within h in size_room s.limit (omega arith) (omega arith);
-        changed = changed-parts (s.revision + 1) s.flags (parts c) (omega arith) (changed-later s.revision (s.revision + 1) s.flags (omega arith) was.changed);
+        changed = changed-parts (s.revision + 1) s.flags (parts c) (omega arith)
+            (changed-later s.revision (s.revision + 1) s.flags (omega arith) was.changed);
       }
 
 pub kept-empty : (revision limit : ℕ) → revision < REVISIONS_END → IsTallied fin.empty revision limit IMAGE_HEAD

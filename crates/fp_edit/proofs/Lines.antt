@@ -1,5 +1,7 @@
 -- What a line says, by what was found of it.
-use Rattle.std.proofs.Common.{◌≡◌, ℕ, suc, ◌+◌, ◌<◌, ◌≤◌, true, false, List, [], ◌∷◌, ◌++◌, length, map, drop, get_or, Option, Some, None, IsSomeAnd, Result, Ok, Err, Vec, refl, ap, sym, subst, ◌∙◌, append_assoc, add-one}
+use Rattle.std.proofs.Common.{◌≡◌, ℕ, suc, ◌+◌, ◌<◌, ◌≤◌, true, false, List, [], ◌∷◌, ◌++◌, length, map, drop, get_or}
+use Rattle.std.proofs.Common.{Option, Some, None, IsSomeAnd, Result, Ok, Err, Vec, refl, ap, sym, subst, ◌∙◌}
+use Rattle.std.proofs.Common.{append_assoc, add-one}
 use Rattle.std.proofs.Math.ListN.{drop_of_length-le}
 use Rattle.std.proofs.lemmas.List.{drop_more, append-nil, map-append}
 use Rattle.std.specs.declared.alloc.Global.{Global}
@@ -22,12 +24,14 @@ use Rattle.fp_edit.specs.declared.edit.Change.{Change}
 use Rattle.fp_edit.specs.declared.line.PartFault.{PartFault}
 use Rattle.fp_edit.specs.declared.line.PartFault.TheVariants as part
 use Rattle.fp_edit.specs.declared.line.LineFault.{LineFault}
-use Rattle.fp_edit.specs.declared.line.LineFault.TheVariants.{TooLong, NotJson, NotObject, BadMember, BadOp, BadKey, BadIf, BadFlag, BadSet, InSet, Memory}
+use Rattle.fp_edit.specs.declared.line.LineFault.TheVariants.{TooLong, NotJson, NotObject, BadMember, BadOp, BadKey}
+use Rattle.fp_edit.specs.declared.line.LineFault.TheVariants.{BadIf, BadFlag, BadSet, InSet, Memory}
 
 -- ---- objects
 
 -- an object is seen as its members
-pub seen_members : (t : Tree) (v : Vec Entry Global) (ms : List Entry) → t ≡ Object v → ms ≡ v.items → tree_view t ≡ object (tree_members ms)
+pub seen_members : (t : Tree) (v : Vec Entry Global) (ms : List Entry) → t ≡ Object v → ms ≡ v.items →
+    tree_view t ≡ object (tree_members ms)
 seen_members t v ms is same = ap tree_view is ∙ view-Object v ∙ ap (λ es. object (tree_members es)) (sym same)
 
 -- one of known members alone is the part that they make
@@ -51,7 +55,8 @@ told_more part.BadMember P Q more h = more says.bad_member h
 told_more part.BadOp P Q more h = more says.bad_op h
 told_more part.BadKey P Q more h = more says.bad_key h
 told_more part.BadIf P Q more h = more says.bad_if h
-told_more (part.BadFlag e) P Q more h = some_more (tells e) (λ f. P (says.bad_flag f)) (λ f. Q (says.bad_flag f)) (λ f. more (says.bad_flag f)) h
+told_more (part.BadFlag e) P Q more h =
+    some_more (tells e) (λ f. P (says.bad_flag f)) (λ f. Q (says.bad_flag f)) (λ f. more (says.bad_flag f)) h
 told_more part.Memory P Q more h = tt
 
 told_more_in_set : (at : ℕ) (e : PartFault) (P Q : Fault → Type 0) → ((f : Fault) → P f → Q f) → TellsInSet at e P → TellsInSet at e Q
@@ -66,7 +71,8 @@ told_more_of_line BadMember P Q more h = more says.bad_member h
 told_more_of_line BadOp P Q more h = more says.bad_op h
 told_more_of_line BadKey P Q more h = more says.bad_key h
 told_more_of_line BadIf P Q more h = more says.bad_if h
-told_more_of_line (BadFlag e) P Q more h = some_more (tells e) (λ f. P (says.bad_flag f)) (λ f. Q (says.bad_flag f)) (λ f. more (says.bad_flag f)) h
+told_more_of_line (BadFlag e) P Q more h =
+    some_more (tells e) (λ f. P (says.bad_flag f)) (λ f. Q (says.bad_flag f)) (λ f. more (says.bad_flag f)) h
 told_more_of_line BadSet P Q more h = more says.bad_set h
 told_more_of_line (InSet at e) P Q more h = told_more_in_set at e P Q more h
 told_more_of_line Memory P Q more h = tt
@@ -84,7 +90,8 @@ edit_of_set d ms is many =
     let set : says.is_set (object ms) ≡ true = subst (λ x. says.is_set x ≡ true) is many in
     rw is (rw set refl)
 
-pub edit_of_part : (d : Data) (ms : Members) → d ≡ object ms → says.is_set d ≡ false → says.edit_in d ≡ (says.part_in d >>= λ p. Ok (single p))
+pub edit_of_part : (d : Data) (ms : Members) → d ≡ object ms → says.is_set d ≡ false →
+    says.edit_in d ≡ (says.part_in d >>= λ p. Ok (single p))
 edit_of_part d ms is one =
     let not_set : says.is_set (object ms) ≡ false = subst (λ x. says.is_set x ≡ false) is one in
     rw is (rw not_set refl)
@@ -96,7 +103,8 @@ pub item_count : (ts : List Tree) → items_len (tree_items ts) ≡ length ts
 item_count [] = refl
 item_count (t ∷ ts) = ap suc (item_count ts)
 
-pub set_of_count : (ts : List Tree) → is_count (length ts) ≡ true → says.set_of (Some (array (tree_items ts))) ≡ (parts_from 0 (tree_items ts) >>= says.joined)
+pub set_of_count : (ts : List Tree) → is_count (length ts) ≡ true →
+    says.set_of (Some (array (tree_items ts))) ≡ (parts_from 0 (tree_items ts) >>= says.joined)
 unfolding set_of
 set_of_count ts counted = rw (item_count, counted) refl
 
@@ -105,17 +113,20 @@ unfolding set_of
 set_of_bad_count ts bad = rw (item_count, bad) refl
 
 -- these parts are joined, or aren't for what they lack
-pub joins_parts : (ps made : List ProposedPart) (r : Result (List ProposedPart) Fault) → r ≡ Ok ps → made ≡ ps → set_fault (parts_of made) ≡ None → (r >>= says.joined) ≡ Ok (joint made)
+pub joins_parts : (ps made : List ProposedPart) (r : Result (List ProposedPart) Fault) → r ≡ Ok ps → made ≡ ps →
+    set_fault (parts_of made) ≡ None → (r >>= says.joined) ≡ Ok (joint made)
 joins_parts ps made r read same lawful = rw (read, ← same, lawful) refl
 
-pub refuses_parts : (ps : List ProposedPart) (e : SetFault) (r : Result (List ProposedPart) Fault) → r ≡ Ok ps → set_fault (parts_of ps) ≡ Some e → (r >>= says.joined) ≡ Err says.bad_set
+pub refuses_parts : (ps : List ProposedPart) (e : SetFault) (r : Result (List ProposedPart) Fault) → r ≡ Ok ps →
+    set_fault (parts_of ps) ≡ Some e → (r >>= says.joined) ≡ Err says.bad_set
 refuses_parts ps e r read lack = rw (read, lack) refl
 
 -- what was read comes before what the rest makes
 abbrev pub behind : List ProposedPart → Result (List ProposedPart) Fault → Result (List ProposedPart) Fault
 behind ps rest = rest >>= λ qs. Ok (ps ++ qs)
 
-joins : (ps : List ProposedPart) (p : ProposedPart) (r : Result (List ProposedPart) Fault) → behind ps (r >>= λ qs. Ok (p ∷ qs)) ≡ behind (ps ++ p ∷ []) r
+joins : (ps : List ProposedPart) (p : ProposedPart) (r : Result (List ProposedPart) Fault) →
+    behind ps (r >>= λ qs. Ok (p ∷ qs)) ≡ behind (ps ++ p ∷ []) r
 joins ps p (Ok qs) = ap Ok (sym (append_assoc ps (p ∷ []) qs))
 joins ps p (Err f) = refl
 
@@ -131,7 +142,8 @@ pub record IsReading (all : List Tree) (at : ℕ) (changes : List Change) : Type
 pub begins_reading : (all : List Tree) (changes : List Change) → AreOrdered (tree_items all) → changes ≡ [] → IsReading all 0 changes
 begins_reading all changes o none = record { ordered = o; decides = rw none (begins (parts_from 0 (tree_items all))) }
 
-module _ (all : List Tree) (at : ℕ) (changes : List Change) (t : Tree) (within : at < length all) (is : t ≡ get_or all at t) (r : IsReading all at changes) where
+module _ (all : List Tree) (at : ℕ) (changes : List Change) (t : Tree) (within : at < length all)
+    (is : t ≡ get_or all at t) (r : IsReading all at changes) where
   left : tree_items (drop at all) ≡ item (tree_view t) (tree_items (drop (at + 1) all))
   left = ap tree_items (drop_more all at t within ∙ ap (λ x. x ∷ drop (at + 1) all) (sym is))
 
@@ -141,13 +153,15 @@ module _ (all : List Tree) (at : ℕ) (changes : List Change) (t : Tree) (within
   pub ordered_item : IsOrdered (tree_view t)
   ordered_item = parts.0
 
-  decided : parts_from 0 (tree_items all) ≡ behind (map proposed_of changes) (parts_from at (item (tree_view t) (tree_items (drop (at + 1) all))))
+  decided : parts_from 0 (tree_items all) ≡ behind (map proposed_of changes)
+      (parts_from at (item (tree_view t) (tree_items (drop (at + 1) all))))
   decided = subst (λ ds. parts_from 0 (tree_items all) ≡ behind (map proposed_of changes) (parts_from at ds)) left r.decides
 
   pub reads_on : (c : Change) → part_inside (tree_view t) ≡ Ok (proposed_of c) → IsReading all (at + 1) (changes ++ c ∷ [])
   reads_on c e = record {
     ordered = parts.1;
-    decides = decided ∙ rw (e, map-append, add-one) (joins (map proposed_of changes) (proposed_of c) (parts_from (suc at) (tree_items (drop (suc at) all))));
+    decides = decided ∙ rw (e, map-append, add-one)
+        (joins (map proposed_of changes) (proposed_of c) (parts_from (suc at) (tree_items (drop (suc at) all))));
   }
 
   -- a fault is that of the whole, at this place
@@ -155,5 +169,6 @@ module _ (all : List Tree) (at : ℕ) (changes : List Change) (t : Tree) (within
   breaks_off f e = decided ∙ rw e refl
 
 -- nothing is left
-pub ends_reading : (all : List Tree) (at : ℕ) (changes : List Change) → length all ≤ at → IsReading all at changes → parts_from 0 (tree_items all) ≡ Ok (map proposed_of changes)
+pub ends_reading : (all : List Tree) (at : ℕ) (changes : List Change) → length all ≤ at → IsReading all at changes →
+    parts_from 0 (tree_items all) ≡ Ok (map proposed_of changes)
 ends_reading all at changes end r = r.decides ∙ rw (drop_of_length-le all end) (ap Ok (append-nil (map proposed_of changes)))

@@ -36,13 +36,19 @@ found-among k [] = refl
 found-among k (l ∷ ks) = ap₂ (λ a b. a || b) (sym (texts_ties k.now l.now)) (found-among k ks)
 
 -- the keys, with one more
-among-by : (q : List ℕ) (k l : Key) (ks : List Key) → is_among q (texts (insert_key key_cmp ks k)) ≡ (bytes_eq q k.now || is_among q (texts ks)) → (r : Ordering) → key_cmp k l ≡ r
-    → is_among q (texts (match_ordering r (k ∷ l ∷ ks) (l ∷ ks) (l ∷ insert_key key_cmp ks k))) ≡ (bytes_eq q k.now || is_among q (texts (l ∷ ks)))
+among-by : (q : List ℕ) (k l : Key) (ks : List Key) →
+    is_among q (texts (insert_key key_cmp ks k)) ≡ (bytes_eq q k.now || is_among q (texts ks)) → (r : Ordering) →
+    key_cmp k l ≡ r
+    → is_among q (texts (match_ordering r (k ∷ l ∷ ks) (l ∷ ks) (l ∷ insert_key key_cmp ks k))) ≡
+    (bytes_eq q k.now || is_among q (texts (l ∷ ks)))
 among-by q k l ks rest Less h = refl
 among-by q k l ks rest Equal h =
-    or_again (bytes_eq q l.now) (is_among q (texts ks)) ∙ ap (λ x. bytes_eq q x || is_among q (texts (l ∷ ks))) (sym (exact_bytes k.now l.now h))
-among-by q k l ks rest Greater h = ap (λ b. bytes_eq q l.now || b) rest ∙ or_swap (bytes_eq q l.now) (bytes_eq q k.now) (is_among q (texts ks))
+    or_again (bytes_eq q l.now) (is_among q (texts ks)) ∙
+    ap (λ x. bytes_eq q x || is_among q (texts (l ∷ ks))) (sym (exact_bytes k.now l.now h))
+among-by q k l ks rest Greater h = ap (λ b. bytes_eq q l.now || b) rest ∙
+    or_swap (bytes_eq q l.now) (bytes_eq q k.now) (is_among q (texts ks))
 
-pub among-inserted : (q : List ℕ) (k : Key) (ks : List Key) → is_among q (texts (insert_key key_cmp ks k)) ≡ (bytes_eq q k.now || is_among q (texts ks))
+pub among-inserted : (q : List ℕ) (k : Key) (ks : List Key) →
+    is_among q (texts (insert_key key_cmp ks k)) ≡ (bytes_eq q k.now || is_among q (texts ks))
 among-inserted q k [] = refl
 among-inserted q k (l ∷ ks) = among-by q k l ks (among-inserted q k ks) (key_cmp k l) refl

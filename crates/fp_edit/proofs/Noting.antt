@@ -29,8 +29,10 @@ same_key own k = (eq_by_cmp_equiv nat_list_cmp_total).symm own k ∙ sym (texts_
 abbrev pub Notes-one : Notes → Notes → List ℕ → ℕ → Type 0
 Notes-one m n key cost = (k : List ℕ) (before : ℕ) → noted_at n k before ≡ cond (bytes_eq k key) cost (noted_at m k before)
 
-module _ (m n : Notes) (r : ℕ) (before after : Flags) (p : Part) (cost : ℕ) (is : cost ≡ cost_found (part_key p) (left_at r p)) (was : AreNoted m before after) where
-  noted-at : (k : List ℕ) (b : Bool) → bytes_eq k (part_key p) ≡ b → cond b cost (noted_at m k (cost_found k (fin.get before k))) ≡ cost_found k (fin.get (part_after r after p) k)
+module _ (m n : Notes) (r : ℕ) (before after : Flags) (p : Part) (cost : ℕ)
+    (is : cost ≡ cost_found (part_key p) (left_at r p)) (was : AreNoted m before after) where
+  noted-at : (k : List ℕ) (b : Bool) → bytes_eq k (part_key p) ≡ b →
+      cond b cost (noted_at m k (cost_found k (fin.get before k))) ≡ cost_found k (fin.get (part_after r after p) k)
   noted-at k true h =
       let same : k ≡ part_key p = (bytes_eq-Decides k (part_key p)).0 h in
       is ∙ ap (λ q. cost_found q (left_at r p)) (sym same) ∙ ap (cost_found k) (sym (get-own r after p k same))

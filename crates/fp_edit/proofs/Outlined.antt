@@ -23,8 +23,10 @@ whole_is_document : (flags : Flags) → whole_text (fin.entries flags) ≡ docum
 unfolding serde_json_on_literals
 whole_is_document flags = refl
 
-pub is_document_of : (d : Document) (es : List (FlagKey × Flag)) (revision limit : ℕ) → IsStrictlySortedBy flag_cmp (keys_of es) → AreChangedBy revision (flags_of es)
-    → Outlines d (entries_of es) → d.revision ≡ revision → IsDocumentOf d (record { flags = flags_of es; revision = revision; limit = limit })
+pub is_document_of : (d : Document) (es : List (FlagKey × Flag)) (revision limit : ℕ) →
+    IsStrictlySortedBy flag_cmp (keys_of es) → AreChangedBy revision (flags_of es)
+    → Outlines d (entries_of es) → d.revision ≡ revision →
+    IsDocumentOf d (record { flags = flags_of es; revision = revision; limit = limit })
 is_document_of d es revision limit ordered changed o at =
     let same = sym (entries-flags_of es ordered) in record {
       outlines = subst (Outlines d) same o;
@@ -34,7 +36,8 @@ is_document_of d es revision limit ordered changed o at =
     }
 
 -- flags that a later set has, where it has as many as a document shows
-pub as_many_shown : (d : Document) (s t : State) (log : List Change) → IsDocumentOf d s → t ≡ after_all s log → length d.lengths.items ≡ fin.len t.flags
+pub as_many_shown : (d : Document) (s t : State) (log : List Change) → IsDocumentOf d s → t ≡ after_all s log →
+    length d.lengths.items ≡ fin.len t.flags
     → HasAsMany d.revision (fin.entries s.flags) (fin.entries t.flags)
 as_many_shown d s t log doc leads count =
     let shown = ap length doc.outlines.lengths ∙ length-part_lengths false (fin.entries s.flags) ∙ sym (fin.len-entries s.flags) in

@@ -1,5 +1,6 @@
 -- What several parts make of flags.
-use Rattle.std.proofs.Common.{◌≡◌, ◌≢◌, ◌<◌, ◌+◌, ◌||◌, not, ℕ, Bool, true, false, true≢false, List, [], ◌∷◌, ◌++◌, length, map, take, drop, get_or, Option, None, Some, cond, refl, sym, ap, ◌∙◌, arith}
+use Rattle.std.proofs.Common.{◌≡◌, ◌≢◌, ◌<◌, ◌+◌, ◌||◌, not, ℕ, Bool, true, false, true≢false, List, [], ◌∷◌, ◌++◌}
+use Rattle.std.proofs.Common.{length, map, take, drop, get_or, Option, None, Some, cond, refl, sym, ap, ◌∙◌, arith}
 use Rattle.std.specs.Prelude.{bytes_eq}
 use Rattle.std.specs.Ordering.{eq_by_cmp}
 use Rattle.std.specs.Cmp.{Equal-is}
@@ -45,7 +46,8 @@ abbrev pub left_at : ℕ → Part → Option Flag
 left_at r (put k text) = Some (record { definition = text; changed = r })
 left_at r (delete k) = None
 
-pub get-part : (r : ℕ) (m : Flags) (p : Part) (q : List ℕ) → fin.get (part_after r m p) q ≡ cond (eq_by_cmp bytes_cmp q (part_key p)) (left_at r p) (fin.get m q)
+pub get-part : (r : ℕ) (m : Flags) (p : Part) (q : List ℕ) →
+    fin.get (part_after r m p) q ≡ cond (eq_by_cmp bytes_cmp q (part_key p)) (left_at r p) (fin.get m q)
 get-part r m (put k text) q = fin.get-insert nat_list_cmp_total m k (record { definition = text; changed = r }) q
 get-part r m (delete k) q = fin.get-remove nat_list_cmp_total m k q
 
@@ -54,13 +56,17 @@ pub get-other : (r : ℕ) (m : Flags) (p : Part) (q : List ℕ) → q ≢ part_k
 get-other r m p q never = get-part r m p q ∙ ap (λ (b : Bool). cond b (left_at r p) (fin.get m q)) (other_key q (part_key p) never)
 
 pub get-own : (r : ℕ) (m : Flags) (p : Part) (q : List ℕ) → q ≡ part_key p → fin.get (part_after r m p) q ≡ left_at r p
-get-own r m p q is = get-part r m p q ∙ ap (λ (b : Bool). cond b (left_at r p) (fin.get m q)) (ap (eq_by_cmp bytes_cmp q) (sym is) ∙ same_key q)
+get-own r m p q is = get-part r m p q ∙
+    ap (λ (b : Bool). cond b (left_at r p) (fin.get m q)) (ap (eq_by_cmp bytes_cmp q) (sym is) ∙ same_key q)
 
-pub size-part : (r : ℕ) (m : Flags) (p : Part) → size (part_after r m p) + cost_found (part_key p) (fin.get m (part_key p)) ≡ size m + cost_found (part_key p) (left_at r p)
+pub size-part : (r : ℕ) (m : Flags) (p : Part) →
+    size (part_after r m p) + cost_found (part_key p) (fin.get m (part_key p)) ≡ size m + cost_found (part_key p)
+    (left_at r p)
 size-part r m (put k text) = size-insert m k (record { definition = text; changed = r })
 size-part r m (delete k) = let all = size-remove m k in omega (arith, all)
 
-pub count-part : (r : ℕ) (m : Flags) (p : Part) → fin.len (part_after r m p) + one_found (fin.get m (part_key p)) ≡ fin.len m + one_found (left_at r p)
+pub count-part : (r : ℕ) (m : Flags) (p : Part) →
+    fin.len (part_after r m p) + one_found (fin.get m (part_key p)) ≡ fin.len m + one_found (left_at r p)
 count-part r m (put k text) = count-insert m k (record { definition = text; changed = r })
 count-part r m (delete k) = let all = count-remove m k in omega (arith, all)
 
@@ -70,7 +76,8 @@ parts_after-append r m [] ys = refl
 parts_after-append r m (x ∷ xs) ys = parts_after-append r (part_after r m x) xs ys
 
 -- the flag of a key that none of them has stays
-pub get-apart : (r : ℕ) (m : Flags) (ps : List Part) (k : List ℕ) → is_among k (map part_key ps) ≡ false → fin.get (parts_after r m ps) k ≡ fin.get m k
+pub get-apart : (r : ℕ) (m : Flags) (ps : List Part) (k : List ℕ) → is_among k (map part_key ps) ≡ false →
+    fin.get (parts_after r m ps) k ≡ fin.get m k
 get-apart r m [] k none = refl
 get-apart r m (p ∷ ps) k none =
     let both = or_parts (bytes_eq k (part_key p)) (is_among k (map part_key ps)) none in
@@ -82,31 +89,39 @@ cond_else true x y z same = refl
 cond_else false x y z same = same refl
 
 -- flags that differ at most at keys of theirs become the same
-pub parts_after-same : (r : ℕ) (m n : Flags) (ps : List Part) → ((q : List ℕ) → is_among q (map part_key ps) ≡ false → fin.get m q ≡ fin.get n q)
+pub parts_after-same : (r : ℕ) (m n : Flags) (ps : List Part) →
+    ((q : List ℕ) → is_among q (map part_key ps) ≡ false → fin.get m q ≡ fin.get n q)
     → parts_after r m ps ≡ parts_after r n ps
 parts_after-same r m n [] same = fin.same_map nat_list_cmp_total exact_bytes m n (λ q. same q refl)
 parts_after-same r m n (p ∷ ps) same = parts_after-same r (part_after r m p) (part_after r n p) ps (λ q none.
     get-part r m p q
-    ∙ cond_else (eq_by_cmp bytes_cmp q (part_key p)) (left_at r p) (fin.get m q) (fin.get n q) (λ e. same q (or_from (bytes_eq q (part_key p)) (is_among q (map part_key ps)) (differ q (part_key p) e) none))
+    ∙ cond_else (eq_by_cmp bytes_cmp q (part_key p)) (left_at r p) (fin.get m q) (fin.get n q)
+    (λ e. same q (or_from (bytes_eq q (part_key p)) (is_among q (map part_key ps)) (differ q (part_key p) e)
+    none))
     ∙ sym (get-part r n p q))
 
 -- an insert at a key that one of them has is lost behind them
-pub parts_after-insert : (r : ℕ) (m : Flags) (k : List ℕ) (f : Flag) (ps : List Part) → is_among k (map part_key ps) ≡ true → parts_after r (fin.insert m k f) ps ≡ parts_after r m ps
+pub parts_after-insert : (r : ℕ) (m : Flags) (k : List ℕ) (f : Flag) (ps : List Part) →
+    is_among k (map part_key ps) ≡ true → parts_after r (fin.insert m k f) ps ≡ parts_after r m ps
 parts_after-insert r m k f ps there = parts_after-same r (fin.insert m k f) m ps (λ q none.
     fin.get-insert nat_list_cmp_total m k f q
-    ∙ ap (λ (b : Bool). cond b (Some f) (fin.get m q)) (other_key q k (λ same. true≢false (sym there ∙ ap (λ (x : List ℕ). is_among x (map part_key ps)) (sym same) ∙ none))))
+    ∙ ap (λ (b : Bool). cond b (Some f) (fin.get m q))
+    (other_key q k (λ same. true≢false
+    (sym there ∙ ap (λ (x : List ℕ). is_among x (map part_key ps)) (sym same) ∙ none))))
 
 -- ---- keys that are all others
 pub is_among-append : (k : List ℕ) (ks ls : List (List ℕ)) → is_among k (ks ++ ls) ≡ (is_among k ks || is_among k ls)
 is_among-append k [] ls = refl
-is_among-append k (x ∷ ks) ls = ap (λ (b : Bool). bytes_eq k x || b) (is_among-append k ks ls) ∙ sym (or_assoc (bytes_eq k x) (is_among k ks) (is_among k ls))
+is_among-append k (x ∷ ks) ls = ap (λ (b : Bool). bytes_eq k x || b) (is_among-append k ks ls) ∙
+    sym (or_assoc (bytes_eq k x) (is_among k ks) (is_among k ls))
 
 -- a key behind others is none of them
 pub are_distinct-behind : (ks ls : List (List ℕ)) (k : List ℕ) → are_distinct (ks ++ k ∷ ls) ≡ true → is_among k ks ≡ false
 are_distinct-behind [] ls k all = refl
 are_distinct-behind (x ∷ ks) ls k all =
     let both = and_parts (not (is_among x (ks ++ k ∷ ls))) (are_distinct (ks ++ k ∷ ls)) all in
-    let here = or_parts (is_among x ks) (is_among x (k ∷ ls)) (sym (is_among-append x ks (k ∷ ls)) ∙ not-true (is_among x (ks ++ k ∷ ls)) both.0) in
+    let here = or_parts (is_among x ks) (is_among x (k ∷ ls))
+    (sym (is_among-append x ks (k ∷ ls)) ∙ not-true (is_among x (ks ++ k ∷ ls)) both.0) in
     let first = or_parts (bytes_eq x k) (is_among x ls) here.1 in
     or_from (bytes_eq k x) (is_among k ks) (unequal k x (λ same. apart x k first.0 (sym same))) (are_distinct-behind ks ls k both.1)
 
@@ -119,11 +134,14 @@ module _ (ps : List Part) (i : ℕ) (p : Part) (within : i < length ps) (is : p 
   pub is_among-before : are_distinct (map part_key ps) ≡ true → is_among (part_key p) (map part_key (take i ps)) ≡ false
   is_among-before all =
       let split : map part_key ps ≡ map part_key (take i ps) ++ part_key p ∷ map part_key (drop (i + 1) ps) =
-      ap (map part_key) (sym (take-append-drop i ps) ∙ ap (λ (l : List Part). take i ps ++ l) (drop-here ps i p within is)) ∙ map-append part_key (take i ps) (p ∷ drop (i + 1) ps) in
+      ap (map part_key) (sym (take-append-drop i ps) ∙
+      ap (λ (l : List Part). take i ps ++ l) (drop-here ps i p within is)) ∙
+      map-append part_key (take i ps) (p ∷ drop (i + 1) ps) in
       are_distinct-behind (map part_key (take i ps)) (map part_key (drop (i + 1) ps)) (part_key p) (ap are_distinct (sym split) ∙ all)
 
   -- so its flag is the one that was there before all of them
-  pub get-before : (r : ℕ) (m : Flags) → are_distinct (map part_key ps) ≡ true → fin.get (parts_after r m (take i ps)) (part_key p) ≡ fin.get m (part_key p)
+  pub get-before : (r : ℕ) (m : Flags) → are_distinct (map part_key ps) ≡ true →
+      fin.get (parts_after r m (take i ps)) (part_key p) ≡ fin.get m (part_key p)
   get-before r m all = get-apart r m (take i ps) (part_key p) (is_among-before all)
 
 -- ---- the parts of changes
@@ -142,4 +160,5 @@ module _ (changes : List code.Change) (i : ℕ) (c : code.Change) (within : i < 
   part_within = rw (length-parts_in) within
 
   pub part_is : (proposed_of c).part ≡ get_or (parts_in changes) i (proposed_of c).part
-  part_is = sym (get_or-map (λ p. p.part) (map proposed_of changes) i (proposed_of c) ∙ ap (λ p. p.part) (get_or-map proposed_of changes i c ∙ ap proposed_of (sym is)))
+  part_is = sym (get_or-map (λ p. p.part) (map proposed_of changes) i (proposed_of c) ∙
+      ap (λ p. p.part) (get_or-map proposed_of changes i c ∙ ap proposed_of (sym is)))

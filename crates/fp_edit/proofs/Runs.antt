@@ -35,7 +35,9 @@ revision-after_all s (c ∷ log) = let rest = revision-after_all (next s c) log 
 pub after_edits-log_of : (s : State) (ps : List Proposal) → after_edits s ps ≡ after_all s (log_of s ps)
 after_edits-log_of s [] = refl
 after_edits-log_of s (p ∷ ps) =
-    elim (is_none (refusal s p)) as (λ b. after_edits (if b then next s (change_in p) else s) ps ≡ after_all s (if b then (change_in p) ∷ log_of (next s (change_in p)) ps else log_of s ps)) [
+    elim (is_none (refusal s p)) as
+    (λ b. after_edits (if b then next s (change_in p) else s) ps ≡ after_all s
+    (if b then (change_in p) ∷ log_of (next s (change_in p)) ps else log_of s ps)) [
       | true ↦ after_edits-log_of (next s (change_in p)) ps
       | false ↦ after_edits-log_of s ps
     ]
@@ -44,10 +46,13 @@ after_edits-log_of s (p ∷ ps) =
 within-next : (s : State) (p : Proposal) → refusal s p ≡ None → size s.flags ≤ s.limit → size (next s (change_in p)).flags ≤ s.limit
 within-next s p h within = size_room s (change_in p) (met s p h).1 s.limit within (omega arith)
 
-pub within-after_edits : (s : State) (ps : List Proposal) → size s.flags ≤ s.limit → size (after_edits s ps).flags ≤ (after_edits s ps).limit
+pub within-after_edits : (s : State) (ps : List Proposal) → size s.flags ≤ s.limit →
+    size (after_edits s ps).flags ≤ (after_edits s ps).limit
 within-after_edits s [] within = within
 within-after_edits s (p ∷ ps) within =
-    elim (refusal s p) as (λ o. refusal s p ≡ o → size (after_edits (if is_none o then next s (change_in p) else s) ps).flags ≤ (after_edits (if is_none o then next s (change_in p) else s) ps).limit) [
+    elim (refusal s p) as (λ o. refusal s p ≡ o →
+    size (after_edits (if is_none o then next s (change_in p) else s) ps).flags ≤
+    (after_edits (if is_none o then next s (change_in p) else s) ps).limit) [
       | None ↦ λ e. within-after_edits (next s (change_in p)) ps (within-next s p e within)
       | Some f ↦ λ e. within-after_edits s ps within
     ] refl

@@ -14,8 +14,10 @@ all_met true true false e f g h = absurd cc
 all_met true false c e f g h = absurd cc
 all_met false b c e f g h = absurd cc
 
-pub set-met : (ps : List Part) → set_fault ps ≡ None → (is_count (length ps) ≡ true) × (are_distinct (map part_key ps) ≡ true) × (nat_le (set_len ps) LONGEST_EDIT ≡ true)
-set-met ps lawful = all_met (is_count (length ps)) (are_distinct (map part_key ps)) (nat_le (set_len ps) LONGEST_EDIT) BadCount RepeatedKey TooLong lawful
+pub set-met : (ps : List Part) → set_fault ps ≡ None → (is_count (length ps) ≡ true) ×
+    (are_distinct (map part_key ps) ≡ true) × (nat_le (set_len ps) LONGEST_EDIT ≡ true)
+set-met ps lawful = all_met (is_count (length ps)) (are_distinct (map part_key ps))
+    (nat_le (set_len ps) LONGEST_EDIT) BadCount RepeatedKey TooLong lawful
 
 pub set-distinct : (ps : List Part) → set_fault ps ≡ None → are_distinct (map part_key ps) ≡ true
 set-distinct ps lawful = (set-met ps lawful).1

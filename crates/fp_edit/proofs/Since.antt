@@ -1,5 +1,7 @@
 -- Which flags stay, and how many one edit marks, where edits lead from one set to another.
-use Rattle.std.proofs.Common.{◌≡◌, ℕ, ◌+◌, ◌-◌, ◌≤◌, ◌<◌, T, List, [], ◌∷◌, length, Less, Equal, Greater, Option, Some, None, cond, is_some, is_eq, unwrap_or, Bool, true, false, true≢false, refl, sym, ap, subst, ◌∙◌, arith}
+use Rattle.std.proofs.Common.{◌≡◌, ℕ, ◌+◌, ◌-◌, ◌≤◌, ◌<◌, T, List, [], ◌∷◌, length, Less, Equal, Greater, Option, Some}
+use Rattle.std.proofs.Common.{None, cond, is_some, is_eq, unwrap_or, Bool, true, false, true≢false, refl, sym, ap}
+use Rattle.std.proofs.Common.{subst, ◌∙◌, arith}
 use Rattle.std.specs.Prelude.{if◌then◌else◌, nat_lt}
 use Rattle.std.specs.Ordering.{eq_by_cmp, ordering_reverse}
 use Rattle.std.proofs.lemmas.Bool.{le-ltb, ltb-true, ltb-false}
@@ -35,20 +37,25 @@ not_deleted : (b : Bool) (o : Option Flag) (f : Flag) → cond b None o ≡ Some
 not_deleted true o f e = absurd (true≢false (sym (ap is_some e)))
 not_deleted false o f e = e
 
-was-part : (r n : ℕ) (m : Flags) (p : Part) (q : List ℕ) (f : Flag) → r < n → f.changed ≤ r → fin.get (part_after n m p) q ≡ Some f → fin.get m q ≡ Some f
+was-part : (r n : ℕ) (m : Flags) (p : Part) (q : List ℕ) (f : Flag) → r < n → f.changed ≤ r →
+    fin.get (part_after n m p) q ≡ Some f → fin.get m q ≡ Some f
 was-part r n m (put k text) q f late early e =
     let v : Flag = record { definition = text; changed = n } in
     not_put r (eq_by_cmp bytes_cmp q k) (fin.get m q) v f late early (sym (fin.get-insert nat_list_cmp_total m k v q) ∙ e)
-was-part r n m (delete k) q f late early e = not_deleted (eq_by_cmp bytes_cmp q k) (fin.get m q) f (sym (fin.get-remove nat_list_cmp_total m k q) ∙ e)
+was-part r n m (delete k) q f late early e =
+    not_deleted (eq_by_cmp bytes_cmp q k) (fin.get m q) f (sym (fin.get-remove nat_list_cmp_total m k q) ∙ e)
 
-was-parts : (r n : ℕ) (m : Flags) (ps : List Part) (q : List ℕ) (f : Flag) → r < n → f.changed ≤ r → fin.get (parts_after n m ps) q ≡ Some f → fin.get m q ≡ Some f
+was-parts : (r n : ℕ) (m : Flags) (ps : List Part) (q : List ℕ) (f : Flag) → r < n → f.changed ≤ r →
+    fin.get (parts_after n m ps) q ≡ Some f → fin.get m q ≡ Some f
 was-parts r n m [] q f late early e = e
 was-parts r n m (p ∷ ps) q f late early e = was-part r n m p q f late early (was-parts r n (part_after n m p) ps q f late early e)
 
-was-all : (r : ℕ) (s : State) (log : List Change) (q : List ℕ) (f : Flag) → r ≤ s.revision → f.changed ≤ r → fin.get (after_all s log).flags q ≡ Some f → fin.get s.flags q ≡ Some f
+was-all : (r : ℕ) (s : State) (log : List Change) (q : List ℕ) (f : Flag) → r ≤ s.revision → f.changed ≤ r →
+    fin.get (after_all s log).flags q ≡ Some f → fin.get s.flags q ≡ Some f
 was-all r s [] q f late early e = e
 was-all r s (c ∷ log) q f late early e =
-    was-parts r (s.revision + 1) s.flags (parts c) q f (omega (arith, late)) early (was-all r (next s c) log q f (omega (arith, late)) early e)
+    was-parts r (s.revision + 1) s.flags (parts c) q f (omega (arith, late)) early
+    (was-all r (next s c) log q f (omega (arith, late)) early e)
 
 -- ---- which stay
 
@@ -64,7 +71,8 @@ find_above x [] h = refl
 find_above x (e ∷ es) h = ap (λ o. cond (is_eq o) (Some e.1) (find bytes_cmp x es)) (less _ (first _ _ h)) ∙ find_above x es (second _ _ h)
 
 -- a key that is found isn't one that isn't
-other_key : (x k : List ℕ) (f : Flag) (es : Entries) → find bytes_cmp x es ≡ None → find bytes_cmp k es ≡ Some f → is_eq (bytes_cmp k x) ≡ false
+other_key : (x k : List ℕ) (f : Flag) (es : Entries) → find bytes_cmp x es ≡ None → find bytes_cmp k es ≡ Some f →
+    is_eq (bytes_cmp k x) ≡ false
 other_key x k f es none some =
     elim (bytes_cmp k x) as (λ o. bytes_cmp k x ≡ o → is_eq o ≡ false) [
       | Less ↦ λ _. refl
@@ -101,32 +109,38 @@ fits r (e ∷ es) (f ∷ fs) s t were =
     let more = first (below_all bytes_cmp f.0 fs) (is_sorted bytes_cmp fs) t in
     elim (bytes_cmp f.0 e.0) as (λ o. bytes_cmp f.0 e.0 ≡ o → Fits r (e ∷ es) (f ∷ fs)) [
       | Less ↦ λ p.
-          let none : find bytes_cmp f.0 (e ∷ es) ≡ None = ap (λ o. cond (is_eq o) (Some e.1) (find bytes_cmp f.0 es)) p ∙ find_below f.0 e.0 es p above in
+          let none : find bytes_cmp f.0 (e ∷ es) ≡ None =
+          ap (λ o. cond (is_eq o) (Some e.1) (find bytes_cmp f.0 es)) p ∙ find_below f.0 e.0 es p above in
           absurd (true≢false (sym here.1 ∙ ap is_some none))
       | Equal ↦ λ p.
           let key : e.0 ≡ f.0 = sym (exact_bytes f.0 e.0 p) in
           let flag : find bytes_cmp f.0 (e ∷ es) ≡ Some e.1 = ap (λ o. cond (is_eq o) (Some e.1) (find bytes_cmp f.0 es)) p in
           let rest = fits r es fs later (second (below_all bytes_cmp f.0 fs) (is_sorted bytes_cmp fs) t) (λ k g q.
           let apart = other_key f.0 k g fs (find_above f.0 fs more) q in
-          subst (Was r g) (past_first e es k (subst (λ x. is_eq (bytes_cmp k x) ≡ false) (sym key) apart)) (were k g (past_first f fs k apart ∙ q))) in
+          subst (Was r g) (past_first e es k (subst (λ x. is_eq (bytes_cmp k x) ≡ false) (sym key) apart))
+          (were k g (past_first f fs k apart ∙ q))) in
           let few = rest.fewer in record {
             fewer = omega arith;
             same = λ n. (key, λ early. same_entry e f key (sym flag ∙ here.0 early), rest.same (omega (arith, n)));
           }
       | Greater ↦ λ p.
           let under : bytes_cmp e.0 f.0 ≡ Less = nat_list_cmp_total.antisymm e.0 f.0 ∙ ap ordering_reverse p in
-          let none : find bytes_cmp e.0 (f ∷ fs) ≡ None = ap (λ o. cond (is_eq o) (Some f.1) (find bytes_cmp e.0 fs)) under ∙ find_below e.0 f.0 fs under more in
-          let rest = fits r es (f ∷ fs) later t (λ k g q. subst (Was r g) (past_first e es k (other_key e.0 k g (f ∷ fs) none q)) (were k g q)) in
+          let none : find bytes_cmp e.0 (f ∷ fs) ≡ None =
+          ap (λ o. cond (is_eq o) (Some f.1) (find bytes_cmp e.0 fs)) under ∙ find_below e.0 f.0 fs under more in
+          let rest = fits r es (f ∷ fs) later t
+          (λ k g q. subst (Was r g) (past_first e es k (other_key e.0 k g (f ∷ fs) none q)) (were k g q)) in
           let few = rest.fewer in record { fewer = omega arith; same = λ n. absurd (omega (arith, n, few)) }
     ] refl
 
 -- a flag that was changed is found where its key was kept
-kept_found : (r : ℕ) (es fs : Entries) → KeepsKeys r es fs → (k : List ℕ) (f : Flag) → find bytes_cmp k fs ≡ Some f → r < f.changed → is_some (find bytes_cmp k es) ≡ true
+kept_found : (r : ℕ) (es fs : Entries) → KeepsKeys r es fs → (k : List ℕ) (f : Flag) → find bytes_cmp k fs ≡ Some f →
+    r < f.changed → is_some (find bytes_cmp k es) ≡ true
 kept_found r [] [] keys k f q late = absurd (true≢false (sym (ap is_some q)))
 kept_found r [] (g ∷ fs) keys k f q late = absurd keys
 kept_found r (e ∷ es) [] keys k f q late = absurd keys
 kept_found r (e ∷ es) (g ∷ fs) keys k f q late =
-    elim (bytes_cmp k g.0) as (λ o. bytes_cmp k g.0 ≡ o → cond (is_eq o) (Some g.1) (find bytes_cmp k fs) ≡ Some f → is_some (cond (is_eq (bytes_cmp k e.0)) (Some e.1) (find bytes_cmp k es)) ≡ true) [
+    elim (bytes_cmp k g.0) as (λ o. bytes_cmp k g.0 ≡ o → cond (is_eq o) (Some g.1) (find bytes_cmp k fs) ≡ Some f →
+    is_some (cond (is_eq (bytes_cmp k e.0)) (Some e.1) (find bytes_cmp k es)) ≡ true) [
       | Less ↦ λ p x. or_found (is_eq (bytes_cmp k e.0)) e.1 (find bytes_cmp k es) (kept_found r es fs keys.1 k f x late)
       | Equal ↦ λ p x.
           let is : g.1 ≡ f = cc x in
@@ -139,33 +153,42 @@ kept_found r (e ∷ es) (g ∷ fs) keys k f q late =
     or_found true v o h = refl
     or_found false v o h = h
 
-were_there : (s t : State) (log : List Change) → t ≡ after_all s log → KeepsKeys s.revision (fin.entries s.flags) (fin.entries t.flags) → Were s.revision (fin.entries s.flags) (fin.entries t.flags)
+were_there : (s t : State) (log : List Change) → t ≡ after_all s log →
+    KeepsKeys s.revision (fin.entries s.flags) (fin.entries t.flags) →
+    Were s.revision (fin.entries s.flags) (fin.entries t.flags)
 were_there s t log leads keys k f q =
     let same : f.changed ≤ s.revision → find bytes_cmp k (fin.entries s.flags) ≡ Some f = λ early.
-    sym (fin.get-entries s.flags k) ∙ was-all s.revision s log k f (omega arith) early (subst (λ (x : State). fin.get x.flags k ≡ Some f) leads (fin.get-entries t.flags k ∙ q)) in (
+    sym (fin.get-entries s.flags k) ∙
+    was-all s.revision s log k f (omega arith) early
+    (subst (λ (x : State). fin.get x.flags k ≡ Some f) leads (fin.get-entries t.flags k ∙ q)) in (
       same,
-      elim (nat_lt s.revision f.changed) as (λ b. nat_lt s.revision f.changed ≡ b → is_some (find bytes_cmp k (fin.entries s.flags)) ≡ true) [
-        | true ↦ λ b. kept_found s.revision (fin.entries s.flags) (fin.entries t.flags) keys k f q (ltb-true _ _ b)
-        | false ↦ λ b. ap is_some (same (ltb-false _ _ b))
-      ] refl,
+      elim (nat_lt s.revision f.changed) as
+          (λ b. nat_lt s.revision f.changed ≡ b → is_some (find bytes_cmp k (fin.entries s.flags)) ≡ true) [
+            | true ↦ λ b. kept_found s.revision (fin.entries s.flags) (fin.entries t.flags) keys k f q (ltb-true _ _ b)
+            | false ↦ λ b. ap is_some (same (ltb-false _ _ b))
+          ] refl,
     )
 
 -- where there are as many flags as before
-pub as_many_before : (s t : State) (log : List Change) → t ≡ after_all s log → fin.len t.flags ≡ fin.len s.flags → HasAsMany s.revision (fin.entries s.flags) (fin.entries t.flags)
+pub as_many_before : (s t : State) (log : List Change) → t ≡ after_all s log → fin.len t.flags ≡ fin.len s.flags →
+    HasAsMany s.revision (fin.entries s.flags) (fin.entries t.flags)
 as_many_before s t log leads len =
     let as_many = sym (fin.len-entries t.flags) ∙ len ∙ fin.len-entries s.flags in (
       as_many,
-      λ keys. (fits s.revision (fin.entries s.flags) (fin.entries t.flags) (fin.entries_sorted s.flags) (fin.entries_sorted t.flags) (were_there s t log leads keys)).same as_many,
+      λ keys. (fits s.revision (fin.entries s.flags) (fin.entries t.flags) (fin.entries_sorted s.flags)
+          (fin.entries_sorted t.flags) (were_there s t log leads keys)).same as_many,
     )
 
 -- ---- none after a set's own revision
 
-none_late : (r : ℕ) (es : Entries) → T (is_sorted bytes_cmp es) → ((k : List ℕ) (f : Flag) → find bytes_cmp k es ≡ Some f → f.changed ≤ r) → changed_after r es ≡ 0
+none_late : (r : ℕ) (es : Entries) → T (is_sorted bytes_cmp es) →
+    ((k : List ℕ) (f : Flag) → find bytes_cmp k es ≡ Some f → f.changed ≤ r) → changed_after r es ≡ 0
 none_late r [] sorted h = refl
 none_late r (e ∷ es) sorted h =
     let early = le-ltb r e.1.changed (h e.0 e.1 (found_first e es)) in
     let above = find_above e.0 es (first (below_all bytes_cmp e.0 es) (is_sorted bytes_cmp es) sorted) in
-    let rest = none_late r es (second (below_all bytes_cmp e.0 es) (is_sorted bytes_cmp es) sorted) (λ k f p. h k f (past_first e es k (other_key e.0 k f es above p) ∙ p)) in
+    let rest = none_late r es (second (below_all bytes_cmp e.0 es) (is_sorted bytes_cmp es) sorted)
+    (λ k f p. h k f (past_first e es k (other_key e.0 k f es above p) ∙ p)) in
     rw early (omega (arith, rest))
 
 pub none_after : (r : ℕ) (m : Flags) → AreChangedBy r m → changed_after r (fin.entries m) ≡ 0
@@ -186,13 +209,15 @@ late_found r (Some f) = one_if (nat_lt r f.changed)
 
 one-insert : (r : ℕ) (m : Flags) (k : List ℕ) (f : Flag) → AreChangedBy r m → changed_after r (fin.entries (fin.insert m k f)) ≤ 1
 one-insert r m k f was =
-    let all = sum-insert (λ e. one_if (nat_lt r e.1.changed)) (changed_after r) (λ e es. refl) (λ _. late_found r) (λ k. refl) (λ k f. refl) m k f in
+    let all = sum-insert (λ e. one_if (nat_lt r e.1.changed)) (changed_after r) (λ e es. refl) (λ _. late_found r)
+    (λ k. refl) (λ k f. refl) m k f in
     let none = none_after r m was in
     let one = one_at_most (nat_lt r f.changed) in omega arith
 
 one-remove : (r : ℕ) (m : Flags) (k : List ℕ) → AreChangedBy r m → changed_after r (fin.entries (fin.remove m k)) ≤ 1
 one-remove r m k was =
-    let all = sum-remove (λ e. one_if (nat_lt r e.1.changed)) (changed_after r) (λ e es. refl) (λ _. late_found r) (λ k. refl) (λ k f. refl) m k in
+    let all = sum-remove (λ e. one_if (nat_lt r e.1.changed)) (changed_after r) (λ e es. refl) (λ _. late_found r)
+    (λ k. refl) (λ k f. refl) m k in
     let none = none_after r m was in omega arith
 
 module _ (said : Bool) (r n : ℕ) (m : Flags) (was : AreChangedBy r m) (new : said ≡ true → r < n) where

@@ -26,7 +26,8 @@ same_front (x ∷ xs) (y ∷ ys) (z ∷ w) p q len =
     cc (here, rest)
 
 -- a beginning r that is ys and more, where xs is as long as ys
-pub front_more : {A : Type 0} (xs ys more r w : List A) → IsPrefix xs w → IsPrefix r w → r ≡ ys ++ more → length xs ≡ length ys → r ≡ xs ++ more
+pub front_more : {A : Type 0} (xs ys more r w : List A) → IsPrefix xs w → IsPrefix r w → r ≡ ys ++ more →
+    length xs ≡ length ys → r ≡ xs ++ more
 front_more xs ys more r w p q is len =
     let whole : (ys ++ more) ++ q.0 ≡ w = ap (λ (l : List _). l ++ q.0) (sym is) ∙ q.1 in
     let same = same_front xs ys w p (more ++ q.0, sym (append_assoc ys more q.0) ∙ whole) len in

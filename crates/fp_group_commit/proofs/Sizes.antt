@@ -15,7 +15,8 @@ use Rattle.fp_group_commit.specs.Changes.{HasRoom}
 use Rattle.fp_group_commit.specs.Inside.{HasPlace, Inside, seen}
 use Rattle.fp_group_commit.specs.Sound.{IsSound}
 
-module _ {D : Type 0} (honest : D → Type 0) (unsynced : D → PendingState) {s : Inside D} {set : State} {first : ℕ} {ahead copies : List Change} (i : IsSound honest unsynced s set first ahead copies) where
+module _ {D : Type 0} (honest : D → Type 0) (unsynced : D → PendingState) {s : Inside D} {set : State} {first : ℕ}
+    {ahead copies : List Change} (i : IsSound honest unsynced s set first ahead copies) where
   -- a quarter of the other slot is half of what a set may take
   pub quarter : (s.slots.other.stop - s.slots.other.start) / 4 ≡ s.store.start.limit / 2
   quarter =
@@ -58,7 +59,8 @@ odd n is power =
 
 pub halves : (n : ℕ) → IsSlotSize n → n ≡ 2 * (n / 2)
 halves n allowed =
-    ⊎_elim (λ even. omega (arith, even)) (λ at. let least = allowed.least in let one = odd n at allowed.power in absurd (omega (arith, least, one))) (parity n)
+    ⊎_elim (λ even. omega (arith, even)) (λ at. let least = allowed.least in let one = odd n at allowed.power in
+    absurd (omega (arith, least, one))) (parity n)
   where
     parity : (m : ℕ) → (m ≡ 2 * (m / 2)) ⊎ (m ≡ m / 2 * 2 ^ 1 + 1)
     parity m = elim (nat_lt (m / 2 * 2) m) as (λ t. nat_lt (m / 2 * 2) m ≡ t → (m ≡ 2 * (m / 2)) ⊎ (m ≡ m / 2 * 2 ^ 1 + 1)) [

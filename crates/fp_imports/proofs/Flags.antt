@@ -7,7 +7,8 @@ use Rattle.std.proofs.lemmas.List.{map-append}
 use Rattle.serde_json.specs.Data.{Data, Members, no_members, member}
 use Rattle.fp_definition.specs.Key.{key_bytes, flag_cmp, is_key}
 use Rattle.fp_definition.specs.declared.key.FlagKey.{FlagKey}
-use Rattle.fp_imports.specs.Document.{Flag, Refusal, bad_key, flag_unless, flag_of_data, flag_expansion, flag_of, flags_of, before, and_others}
+use Rattle.fp_imports.specs.Document.{Flag, Refusal, bad_key, flag_unless, flag_of_data, flag_expansion, flag_of}
+use Rattle.fp_imports.specs.Document.{flags_of, before, and_others}
 use Rattle.fp_imports.proofs.Walks.{names}
 use Rattle.std.specs.Prelude.{Some, None, Option, Bool, true, false, if◌then◌else◌}
 use Rattle.fp_base.specs.Bytes.{bytes_cmp}
@@ -28,12 +29,14 @@ after_flags-one fs f (Ok gs) = ap Ok (append_assoc fs (f ∷ []) gs)
 after_flags-one fs f (Err e) = refl
 
 -- a flag before the others
-pub flags-ok : (evaluators : Members) (k : List ℕ) (d : Data) (ms : Members) (f : Flag) → flag_of evaluators k d ≡ Ok f → flags_of evaluators (member k d ms) ≡ before f (flags_of evaluators ms)
+pub flags-ok : (evaluators : Members) (k : List ℕ) (d : Data) (ms : Members) (f : Flag) →
+    flag_of evaluators k d ≡ Ok f → flags_of evaluators (member k d ms) ≡ before f (flags_of evaluators ms)
 flags-ok evaluators k d ms f h = ap (λ r. and_others r (flags_of evaluators ms)) h
 
 -- ---- their keys
 
-pub keys-one : (fs : List (FlagKey × List ℕ)) (f : FlagKey × List ℕ) → map key_bytes (keys_of (fs ++ f ∷ [])) ≡ map key_bytes (keys_of fs) ++ key_bytes f.0 ∷ []
+pub keys-one : (fs : List (FlagKey × List ℕ)) (f : FlagKey × List ℕ) →
+    map key_bytes (keys_of (fs ++ f ∷ [])) ≡ map key_bytes (keys_of fs) ++ key_bytes f.0 ∷ []
 keys-one fs f = ap (map key_bytes) (map-append (λ (e : FlagKey × List ℕ). e.0) fs (f ∷ [])) ∙ map-append key_bytes (keys_of fs) (f.0 ∷ [])
 
 abbrev key_or : List ℕ → Result Flag Refusal → List ℕ
@@ -55,9 +58,11 @@ key_or-if false k r h = refl
 -- a flag has the name that it was looked for by
 pub flag-named : (evaluators : Members) (k : List ℕ) (d : Data) (f : Flag) → flag_of evaluators k d ≡ Ok f → f.0 ≡ k
 flag-named evaluators k d f h =
-    sym (ap (key_or k) h) ∙ key_or-if (is_key k) k (flag_of_data k (flag_expansion evaluators d)) (key_or-defined k (flag_expansion evaluators d))
+    sym (ap (key_or k) h) ∙ key_or-if (is_key k) k (flag_of_data k (flag_expansion evaluators d))
+    (key_or-defined k (flag_expansion evaluators d))
 
-below_all : (k : FlagKey) (name : List ℕ) (ks : List FlagKey) (ms : Members) → key_bytes k ≡ name → map key_bytes ks ≡ names ms → IsBelow name ms → AllByRecursion (λ l. flag_cmp k l ≡ Less) ks
+below_all : (k : FlagKey) (name : List ℕ) (ks : List FlagKey) (ms : Members) → key_bytes k ≡ name →
+    map key_bytes ks ≡ names ms → IsBelow name ms → AllByRecursion (λ l. flag_cmp k l ≡ Less) ks
 below_all k name [] ms first same h = tt
 below_all k name (l ∷ ks) no_members first same h = absurd (search rules)
 below_all k name (l ∷ ks) (member n d ms) first same h =

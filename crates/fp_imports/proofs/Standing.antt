@@ -43,7 +43,8 @@ module _ (at : List ℕ → ℕ → Walked Data) where
         at_object at ms left n (no_name (reference ms) none.0) more
         ∙ ap (λ w. onward w (λ es m. Ok (object es, m))) (members-itself ms n rest refl none.1)
 
-    items-itself : (ds : Items) (left rest : ℕ) → left ≡ items_count ds + rest → items_refer ds ≡ false → items_expansion at ds left ≡ Ok (list_of ds, rest)
+    items-itself : (ds : Items) (left rest : ℕ) → left ≡ items_count ds + rest → items_refer ds ≡ false →
+        items_expansion at ds left ≡ Ok (list_of ds, rest)
     items-itself no_items left rest e h = let same : left ≡ rest = omega arith in ap (items_expansion at no_items) same
     items-itself (item d ds) left rest e h =
         let none = or_parts (refers d) (items_refer ds) h in
@@ -51,7 +52,8 @@ module _ (at : List ℕ → ℕ → Walked Data) where
         items_ok at d ds left d (items_count ds + rest) (expansion-itself d left (items_count ds + rest) all none.0)
         ∙ ap (λ w. onward w (λ es m. Ok (d ∷ es, m))) (items-itself ds (items_count ds + rest) rest refl none.1)
 
-    members-itself : (ms : Members) (left rest : ℕ) → left ≡ members_count ms + rest → members_refer ms ≡ false → members_expansion at ms left ≡ Ok (ms, rest)
+    members-itself : (ms : Members) (left rest : ℕ) → left ≡ members_count ms + rest → members_refer ms ≡ false →
+        members_expansion at ms left ≡ Ok (ms, rest)
     members-itself no_members left rest e h = let same : left ≡ rest = omega arith in ap (members_expansion at no_members) same
     members-itself (member k d ms) left rest e h =
         let none = or_parts (refers d) (members_refer ms) h in

@@ -6,7 +6,8 @@ use Rattle.fp_imports.specs.Document.{flag_expansion, targeting_expansion, walk_
 use Rattle.fp_imports.specs.References.{Broken, whole_expansion}
 
 module _ (evaluators ms : Members) (t : Data) (there : get_member (codes "targeting") ms ≡ Some t) where
-  pub targeting-put : (e : Data) (rest : ℕ) → whole_expansion evaluators t ≡ Ok (e, rest) → flag_expansion evaluators (object ms) ≡ Ok (object (put (codes "targeting") e ms))
+  pub targeting-put : (e : Data) (rest : ℕ) → whole_expansion evaluators t ≡ Ok (e, rest) →
+      flag_expansion evaluators (object ms) ≡ Ok (object (put (codes "targeting") e ms))
   targeting-put e rest made = ap (with_targeting ms) (ap (targeting_expansion evaluators) there ∙ ap walk_made made)
 
   pub targeting-broken : (x : Broken) → whole_expansion evaluators t ≡ Err x → flag_expansion evaluators (object ms) ≡ Err x

@@ -25,7 +25,8 @@ are_more [] ys p q = q
 are_more (x ∷ xs) ys p q = (p.0, are_more xs ys p.1 q)
 
 -- more reads behind those
-pub reads_behind : (kinds : List CallKind) (old middle new : List CallKind) → ThenReads kinds old middle → ThenReads [] middle new → ThenReads kinds old new
+pub reads_behind : (kinds : List CallKind) (old middle new : List CallKind) → ThenReads kinds old middle →
+    ThenReads [] middle new → ThenReads kinds old new
 reads_behind kinds old middle new p q = (
   p.0 ++ q.0,
   are_more p.0 q.0 p.1 q.1,
@@ -61,10 +62,14 @@ module _ {D : Type 0} (disk : Ghosts D) where
 
 -- ---- a part that was read
 -- one piece more
-pub piece_more : (c : List ℕ) (first count at n : ℕ) (old piece new : List ℕ) → Holds c first old → first + length old + count ≤ length c → at ≡ first + length old → n ≡ count → piece ≡ slice_range c at (at + n) → new ≡ old ++ piece → Holds c first new
+pub piece_more : (c : List ℕ) (first count at n : ℕ) (old piece new : List ℕ) → Holds c first old →
+    first + length old + count ≤ length c → at ≡ first + length old → n ≡ count → piece ≡ slice_range c at (at + n) →
+    new ≡ old ++ piece → Holds c first new
 piece_more c first count at n old piece new there le here all is grown =
     let more = (held_range c at n (omega (arith, le, here, all))).0 in
-    subst (λ (t : List ℕ). Holds c first t) (sym grown) (holds_append c first old piece there (subst (λ (k : ℕ). Holds c k piece) here (subst (λ (t : List ℕ). Holds c at t) (sym is) more)))
+    subst (λ (t : List ℕ). Holds c first t) (sym grown)
+    (holds_append c first old piece there
+    (subst (λ (k : ℕ). Holds c k piece) here (subst (λ (t : List ℕ). Holds c at t) (sym is) more)))
 
 -- what a slice as long as the list was filled with is the whole list
 pub whole_back : (new items : List ℕ) (n : ℕ) → length new ≡ n → length items ≡ n → take n (new ++ drop (length new) items) ≡ new

@@ -19,34 +19,48 @@ some_more (kind ∷ kinds) more old new (inr some) = inr (some_more kinds more (
 
 some_behind : (done kinds : List CallKind) (old new : List CallKind) → MakesSome kinds (old ++ done) new → MakesSome (done ++ kinds) old new
 some_behind [] kinds old new some = subst (λ (l : List CallKind). MakesSome kinds l new) (append-nil old) some
-some_behind (kind ∷ done) kinds old new some = inr (some_behind done kinds (old ++ kind ∷ []) new (subst (λ (l : List CallKind). MakesSome kinds l new) (sym (append_assoc old (kind ∷ []) done)) some))
+some_behind (kind ∷ done) kinds old new some =
+    inr (some_behind done kinds (old ++ kind ∷ []) new
+    (subst (λ (l : List CallKind). MakesSome kinds l new) (sym (append_assoc old (kind ∷ []) done)) some))
 
 -- those that were made, and then some of these, of which more would have followed
-pub breaks_off : (done part rest : List CallKind) (old middle new : List CallKind) → middle ≡ old ++ done → MakesSome part middle new → MakesSome (done ++ (part ++ rest)) old new
-breaks_off done part rest old middle new is some = some_behind done (part ++ rest) old new (some_more part rest (old ++ done) new (subst (λ (l : List CallKind). MakesSome part l new) is some))
+pub breaks_off : (done part rest : List CallKind) (old middle new : List CallKind) → middle ≡ old ++ done →
+    MakesSome part middle new → MakesSome (done ++ (part ++ rest)) old new
+breaks_off done part rest old middle new is some =
+    some_behind done (part ++ rest) old new
+    (some_more part rest (old ++ done) new (subst (λ (l : List CallKind). MakesSome part l new) is some))
 
 -- all of them
-pub calls_joined : (first next : List CallKind) (old middle new : List CallKind) → middle ≡ old ++ first → new ≡ middle ++ next → new ≡ old ++ (first ++ next)
+pub calls_joined : (first next : List CallKind) (old middle new : List CallKind) → middle ≡ old ++ first →
+    new ≡ middle ++ next → new ≡ old ++ (first ++ next)
 calls_joined first next old middle new is more = more ∙ ap (λ (l : List CallKind). l ++ next) is ∙ append_assoc old first next
 
-pub makes_behind : {T : Type 0} (r : Result T DiskFault) (done kinds : List CallKind) (old middle new : List CallKind) → middle ≡ old ++ done → Makes kinds middle new r → Makes (done ++ kinds) old new r
+pub makes_behind : {T : Type 0} (r : Result T DiskFault) (done kinds : List CallKind)
+    (old middle new : List CallKind) → middle ≡ old ++ done → Makes kinds middle new r →
+    Makes (done ++ kinds) old new r
 makes_behind (Ok x) done kinds old middle new is made = calls_joined done kinds old middle new is made
-makes_behind (Err e) done kinds old middle new is some = some_behind done kinds old new (subst (λ (l : List CallKind). MakesSome kinds l new) is some)
+makes_behind (Err e) done kinds old middle new is some =
+    some_behind done kinds old new (subst (λ (l : List CallKind). MakesSome kinds l new) is some)
 
 all_some : (kinds : List CallKind) (old new : List CallKind) → new ≡ old ++ kinds → MakesSome kinds old new
 all_some [] old new is = is ∙ append-nil old
 all_some (kind ∷ kinds) old new is = inr (all_some kinds (old ++ kind ∷ []) new (is ∙ sym (append_assoc old (kind ∷ []) kinds)))
 
-pub all_makes : {T : Type 0} (r : Result T DiskFault) (kinds : List CallKind) (old new : List CallKind) → new ≡ old ++ kinds → Makes kinds old new r
+pub all_makes : {T : Type 0} (r : Result T DiskFault) (kinds : List CallKind) (old new : List CallKind) →
+    new ≡ old ++ kinds → Makes kinds old new r
 all_makes (Ok x) kinds old new is = is
 all_makes (Err e) kinds old new is = all_some kinds old new is
 
 -- ---- one, and then reads
-pub reads_after : (kind : CallKind) (kinds : List CallKind) (old middle new : List CallKind) → middle ≡ old ++ kind ∷ [] → ThenReads kinds middle new → ThenReads (kind ∷ kinds) old new
+pub reads_after : (kind : CallKind) (kinds : List CallKind) (old middle new : List CallKind) →
+    middle ≡ old ++ kind ∷ [] → ThenReads kinds middle new → ThenReads (kind ∷ kinds) old new
 reads_after kind kinds old middle new is reads = (reads.0, reads.1, calls_joined (kind ∷ []) (kinds ++ reads.0) old middle new is reads.2)
 
-pub some_reads_after : (kind : CallKind) (kinds : List CallKind) (old middle new : List CallKind) → middle ≡ old ++ kind ∷ [] → ThenSomeReads kinds middle new → ThenSomeReads (kind ∷ kinds) old new
-some_reads_after kind kinds old middle new is = ⊎_elim (λ some. inl (inr (subst (λ (l : List CallKind). MakesSome kinds l new) is some))) (λ reads. inr (reads_after kind kinds old middle new is reads))
+pub some_reads_after : (kind : CallKind) (kinds : List CallKind) (old middle new : List CallKind) →
+    middle ≡ old ++ kind ∷ [] → ThenSomeReads kinds middle new → ThenSomeReads (kind ∷ kinds) old new
+some_reads_after kind kinds old middle new is =
+    ⊎_elim (λ some. inl (inr (subst (λ (l : List CallKind). MakesSome kinds l new) is some)))
+    (λ reads. inr (reads_after kind kinds old middle new is reads))
 
 -- ---- how it ended
 pub ok_no_fault : {T E : Type 0} {x : T} {e : E} → Ok x ≡ Err e → ⊥

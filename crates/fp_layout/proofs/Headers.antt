@@ -11,7 +11,8 @@ use Rattle.fp_layout.specs.declared.fault.OpenFault.TheVariants.{Damaged}
 
 module _ (c bytes : List ℕ) (first : AreFirst c 0 64 bytes) (whole : 64 ≤ length bytes) where
   pub byte_from : (k : ℕ) → k < 64 → slice_index c k ≡ slice_index bytes k
-  byte_from k lt = let e : k ≡ 0 + k = omega arith in ap (λ (j : ℕ). slice_index c j) e ∙ first_at c 0 64 bytes k first (omega (arith, lt, whole))
+  byte_from k lt = let e : k ≡ 0 + k = omega arith in
+      ap (λ (j : ℕ). slice_index c j) e ∙ first_at c 0 64 bytes k first (omega (arith, lt, whole))
 
   pub formatted_from : IsFormatted bytes → IsFormatted c
   formatted_from f = let long = first.there.long in record {
@@ -36,13 +37,19 @@ module _ (c bytes : List ℕ) (first : AreFirst c 0 64 bytes) (whole : 64 ≤ le
 
 -- the other way
 pub formatted_in : (c bytes : List ℕ) → AreFirst c 0 64 bytes → IsFormatted c → IsFormatted bytes
-formatted_in c bytes first f = let long = f.long in let many = first.many in let whole : 64 ≤ length bytes = omega (arith, long, many) in record {
-  long = whole;
-  gate = sym (byte_from c bytes first whole 0 (omega arith)) ∙ f.gate;
-  magic_text = held_in c 0 64 1 bytes magic first (omega arith) f.magic_text;
-}
+formatted_in c bytes first f = let long = f.long in let many = first.many in
+    let whole : 64 ≤ length bytes = omega (arith, long, many) in record {
+      long = whole;
+      gate = sym (byte_from c bytes first whole 0 (omega arith)) ∙ f.gate;
+      magic_text = held_in c 0 64 1 bytes magic first (omega arith) f.magic_text;
+    }
 
 -- a header that is damaged
-pub refuses_from : (c bytes : List ℕ) → AreFirst c 0 64 bytes → IsFormatted bytes → slice_index bytes 9 ≡ 1 → (n : ℕ) → n < 2 ^ 64 → Holds bytes 10 (to_be_bytes w64 n) → (k : ℕ) → BreaksHeader c n k → RefusesHeader c (Damaged k)
-refuses_from c bytes first formatted version n fits holds k broken = let whole = formatted.long in
-    (formatted_from c bytes first whole formatted, byte_from c bytes first whole 9 (omega arith) ∙ version, (n, fits, size_from c bytes first whole n holds, broken))
+pub refuses_from : (c bytes : List ℕ) → AreFirst c 0 64 bytes → IsFormatted bytes → slice_index bytes 9 ≡ 1 →
+    (n : ℕ) → n < 2 ^ 64 → Holds bytes 10 (to_be_bytes w64 n) → (k : ℕ) → BreaksHeader c n k →
+    RefusesHeader c (Damaged k)
+refuses_from c bytes first formatted version n fits holds k broken = let whole = formatted.long in (
+  formatted_from c bytes first whole formatted,
+  byte_from c bytes first whole 9 (omega arith) ∙ version,
+  (n, fits, size_from c bytes first whole n holds, broken),
+)

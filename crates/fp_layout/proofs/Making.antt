@@ -1,5 +1,6 @@
 -- A disk in the making: until the header's gate is open it is none, and then it is whole.
-use Rattle.std.proofs.Common.{◌≡◌, inl, inr, ⊎_elim, ℕ, ◌+◌, ◌-◌, ◌<◌, ◌≤◌, List, [], ◌∷◌, ◌++◌, length, set, refl, sym, ◌∙◌, ap, subst, arith, replicate, lit<, lit≤}
+use Rattle.std.proofs.Common.{◌≡◌, inl, inr, ⊎_elim, ℕ, ◌+◌, ◌-◌, ◌<◌, ◌≤◌, List, [], ◌∷◌, ◌++◌, length, set, refl, sym}
+use Rattle.std.proofs.Common.{◌∙◌, ap, subst, arith, replicate, lit<, lit≤}
 use Rattle.std.specs.Prelude.{Result, Ok, slice_index, slice_range}
 use Rattle.std.proofs.lemmas.Bool.{cases_eq}
 use Rattle.std.specs.Int.{w32, w64, to_be_bytes}
@@ -17,7 +18,9 @@ use Rattle.fp_disk.specs.declared.history.CallKind.TheVariants.{Sync, Write}
 use Rattle.fp_layout.proofs.Calls.{calls_joined}
 use Rattle.fp_disk.specs.Outcomes.{CountsFaults, Elapses, IsOutcome, LeavesOnly, PendingState, Written, all_synced, with_write}
 use Rattle.fp_journal.specs.Holds.{Holds, IsSynced}
-use Rattle.fp_journal.proofs.Holds.{holds_append, holds_front, holds_back, holds_byte, byte_held, holds_written, holds_apart, written_after, written_gap, written_long, firm_outcome, firm_touched, firm_settled}
+use Rattle.fp_journal.proofs.Holds.{holds_append, holds_front, holds_back, holds_byte, byte_held, holds_written}
+use Rattle.fp_journal.proofs.Holds.{holds_apart, written_after, written_gap, written_long, firm_outcome, firm_touched}
+use Rattle.fp_journal.proofs.Holds.{firm_settled}
 use Rattle.fp_disk.specs.declared.disk.Disk.{Ghosts}
 use Rattle.fp_disk.specs.Moments.{leaves_call, leaves_map}
 use Rattle.fp_slots.specs.State as slots
@@ -32,14 +35,18 @@ pub no_bytes : (c : List ℕ) → length c ≡ 0 → c ≡ []
 no_bytes [] is = refl
 no_bytes (x ∷ xs) is = absurd (omega (arith, is))
 
-module _ {D : Type 0} (disk : Ghosts D) (only_now : (d : D) (c : List ℕ) → disk.honest d → disk.crash_states_since d (disk.moment d) c → IsOutcome (disk.unsynced d) c) {old new : D} where
+module _ {D : Type 0} (disk : Ghosts D)
+    (only_now : (d : D) (c : List ℕ) → disk.honest d → disk.crash_states_since d (disk.moment d) c →
+    IsOutcome (disk.unsynced d) c) {old new : D} where
   -- a call that changes nothing
   pub untouched : disk.honest old → (disk.bytes new ≡ disk.bytes old) × (disk.unsynced new ≡ disk.unsynced old)
-      → Elapses (disk.moment old) (disk.moment new) (disk.crash_states_since old) (disk.crash_states_since new) (IsOutcome (disk.unsynced old)) → IsUntouched disk old new
+      → Elapses (disk.moment old) (disk.moment new) (disk.crash_states_since old) (disk.crash_states_since new)
+      (IsOutcome (disk.unsynced old)) → IsUntouched disk old new
   untouched honest same time = record {
     stays = record {
       bytes = same.0;
-      any_moment = leaves_call disk.moment disk.crash_states_since old new (IsOutcome (disk.unsynced old)) (IsOutcome (disk.unsynced old)) (IsOutcome (disk.unsynced old)) time
+      any_moment = leaves_call disk.moment disk.crash_states_since old new (IsOutcome (disk.unsynced old))
+          (IsOutcome (disk.unsynced old)) (IsOutcome (disk.unsynced old)) time
           (λ c left. only_now old c honest left) (λ c out. out) (λ c out. out);
     };
     unsynced = same.1;
@@ -53,8 +60,11 @@ none_shut : (c : List ℕ) → Holds c 0 (0 ∷ []) → IsFormatted c → ⊥
 none_shut c h f = let zero : slice_index c 0 ≡ 0 = byte_held c 0 0 [] h in let gate = f.gate in omega (arith, zero, gate)
 
 -- a write behind the closed gate of the header leaves none
-pub shut_none : (size : ℕ) (u : PendingState) (from n : ℕ) (c : List ℕ) → 1 ≤ from → IsSynced u 0 (0 ∷ []) → IsOutcome (with_write u from n) c → IsNewOrNone size c
-shut_none size u from n c le f o = inl (none_shut c (firm_outcome (with_write u from n) 0 (0 ∷ []) c (firm_touched u 0 from n (0 ∷ []) (inr (omega (arith, le))) f) o))
+pub shut_none : (size : ℕ) (u : PendingState) (from n : ℕ) (c : List ℕ) → 1 ≤ from → IsSynced u 0 (0 ∷ []) →
+    IsOutcome (with_write u from n) c → IsNewOrNone size c
+shut_none size u from n c le f o =
+    inl (none_shut c (firm_outcome (with_write u from n) 0 (0 ∷ []) c
+    (firm_touched u 0 from n (0 ∷ []) (inr (omega (arith, le))) f) o))
 
 -- the first write leaves a byte at most
 pub first_none : (size : ℕ) (c : List ℕ) → IsOutcome (with_write (all_synced []) 0 1) c → IsNewOrNone size c
@@ -84,14 +94,22 @@ module _ (size : ℕ) (b1 b2 b3 b4 : List ℕ) (large : 64 ≤ size) where
       let n3 = written_long b2 (0 ∷ []) b3 (64 + size) w3 in
       let n4 = written_long b3 (OPEN ∷ []) b4 64 w4 in
       let long2 : length b2 ≡ 91 = omega (arith, n1, n2) in
-      let piece : Holds b3 1 (header_text size ++ 0 ∷ (tail ++ 0 ∷ [])) = holds_apart b2 (0 ∷ []) b3 (header_text size ++ 0 ∷ (tail ++ 0 ∷ [])) (64 + size) 1 w3 (inr (omega (arith, large))) (holds_written b1 (header_text size ++ 0 ∷ (tail ++ 0 ∷ [])) b2 1 w2) in
+      let piece : Holds b3 1 (header_text size ++ 0 ∷ (tail ++ 0 ∷ [])) =
+      holds_apart b2 (0 ∷ []) b3 (header_text size ++ 0 ∷ (tail ++ 0 ∷ [])) (64 + size) 1 w3
+      (inr (omega (arith, large))) (holds_written b1 (header_text size ++ 0 ∷ (tail ++ 0 ∷ [])) b2 1 w2) in
       let back : Holds b3 64 (0 ∷ (tail ++ 0 ∷ [])) = holds_back b3 1 (header_text size) (0 ∷ (tail ++ 0 ∷ [])) piece in
-      let header : Holds b4 1 (header_text size) = holds_apart b3 (OPEN ∷ []) b4 (header_text size) 64 1 w4 (inr (omega arith)) (holds_front b3 1 (header_text size) (0 ∷ (tail ++ 0 ∷ [])) piece) in
-      let rest : Holds b4 65 (tail ++ 0 ∷ []) = holds_apart b3 (OPEN ∷ []) b4 (tail ++ 0 ∷ []) 64 65 w4 (inl (omega arith)) (holds_back b3 64 (0 ∷ []) (tail ++ 0 ∷ []) back) in
+      let header : Holds b4 1 (header_text size) =
+      holds_apart b3 (OPEN ∷ []) b4 (header_text size) 64 1 w4 (inr (omega arith))
+      (holds_front b3 1 (header_text size) (0 ∷ (tail ++ 0 ∷ [])) piece) in
+      let rest : Holds b4 65 (tail ++ 0 ∷ []) =
+      holds_apart b3 (OPEN ∷ []) b4 (tail ++ 0 ∷ []) 64 65 w4 (inl (omega arith))
+      (holds_back b3 64 (0 ∷ []) (tail ++ 0 ∷ []) back) in
       let last : slice_index b4 90 ≡ 0 = byte_held b4 90 0 [] (holds_back b4 65 tail (0 ∷ []) rest) in
       record {
         long = omega (arith, long2, n3, n4);
-        text = holds_append b4 1 (header_text size) new_front header (holds_append b4 64 (OPEN ∷ []) tail (holds_written b3 (OPEN ∷ []) b4 64 w4) (holds_front b4 65 tail (0 ∷ []) rest));
+        text = holds_append b4 1 (header_text size) new_front header
+            (holds_append b4 64 (OPEN ∷ []) tail (holds_written b3 (OPEN ∷ []) b4 64 w4)
+            (holds_front b4 65 tail (0 ∷ []) rest));
         zeros = λ k low high. elim (cases_eq k 90) [
           | inl is ↦ ap (λ (j : ℕ). slice_index b4 j) is ∙ last
           | inr not_is ↦ written_after b3 (OPEN ∷ []) b4 64 k w4 (omega (arith, low)) ∙ elim (cases_eq k (64 + size)) [
@@ -106,8 +124,11 @@ pub made_outcome : (size : ℕ) (b c : List ℕ) → IsMade size b → IsOutcome
 made_outcome size b c m o =
     let low = o.no_shorter in let high = o.no_longer in let long = m.long in record {
       long = omega (arith, low, high, long);
-      text = firm_outcome (with_write (all_synced b) 0 1) 1 (header_text size ++ new_front) c (firm_touched (all_synced b) 1 0 1 (header_text size ++ new_front) (inl (omega arith)) (firm_settled b 1 (header_text size ++ new_front) m.text)) o;
-      zeros = λ k le lt. o.kept k (omega (arith, long, lt)) (λ covers. ⊎_elim (λ here. let x = here.1 in omega (arith, x, le)) (λ none. none) covers) ∙ m.zeros k le lt;
+      text = firm_outcome (with_write (all_synced b) 0 1) 1 (header_text size ++ new_front) c
+          (firm_touched (all_synced b) 1 0 1 (header_text size ++ new_front) (inl (omega arith))
+          (firm_settled b 1 (header_text size ++ new_front) m.text)) o;
+      zeros = λ k le lt. o.kept k (omega (arith, long, lt)) (λ covers. ⊎_elim (λ here. let x = here.1 in
+          omega (arith, x, le)) (λ none. none) covers) ∙ m.zeros k le lt;
     }
 
 pub last_new : (size : ℕ) (b c : List ℕ) → IsMade size b → IsOutcome (with_write (all_synced b) 0 1) c → IsNewOrNone size c
@@ -127,13 +148,18 @@ new_written size b new m w = let n = written_long b (OPEN ∷ []) new 0 w in let
 }
 
 -- ---- the calls in turn
-module _ {D : Type 0} (disk : Ghosts D) (present : (d : D) → disk.honest d → IsOutcome (disk.unsynced d) (disk.bytes d)) (only_now : (d : D) (c : List ℕ) → disk.honest d → disk.crash_states_since d (disk.moment d) c → IsOutcome (disk.unsynced d) c) (size : ℕ) (start : D) where
+module _ {D : Type 0} (disk : Ghosts D)
+    (present : (d : D) → disk.honest d → IsOutcome (disk.unsynced d) (disk.bytes d))
+    (only_now : (d : D) (c : List ℕ) → disk.honest d → disk.crash_states_since d (disk.moment d) c →
+    IsOutcome (disk.unsynced d) c) (size : ℕ) (start : D) where
   -- of an empty disk none or a new one
   abbrev pub IsOfEmpty : List ℕ → Type 0
   IsOfEmpty c = disk.unsynced start ≡ all_synced [] → IsNewOrNone size c
 
-  pub empty_only : {d : D} → KeepsWord disk start d IsOfEmpty → disk.honest start → disk.unsynced start ≡ all_synced [] → LeavesOnly disk.moment disk.crash_states_since start d (IsNewOrNone size)
-  empty_only {d} word h is = leaves_map disk.moment disk.crash_states_since start d IsOfEmpty (IsNewOrNone size) (λ c p. p is) (word.any_moment h)
+  pub empty_only : {d : D} → KeepsWord disk start d IsOfEmpty → disk.honest start →
+      disk.unsynced start ≡ all_synced [] → LeavesOnly disk.moment disk.crash_states_since start d (IsNewOrNone size)
+  empty_only {d} word h is = leaves_map disk.moment disk.crash_states_since start d IsOfEmpty (IsNewOrNone size)
+      (λ c p. p is) (word.any_moment h)
 
   -- none of these calls failed, and now the header's gate is closed for sure
   pub record SoFar (d : D) (done : List CallKind) : Type 0 where
@@ -143,28 +169,41 @@ module _ {D : Type 0} (disk : Ghosts D) (present : (d : D) → disk.honest d →
     pub firm : disk.honest start → IsSynced (disk.unsynced d) 0 (0 ∷ [])
 
   pub empty_bytes : disk.honest start → disk.unsynced start ≡ all_synced [] → disk.bytes start ≡ []
-  empty_bytes h is = let o : IsOutcome (all_synced []) (disk.bytes start) = subst (λ (u : PendingState). IsOutcome u (disk.bytes start)) is (present start h) in let high = o.no_longer in no_bytes (disk.bytes start) (omega (arith, high))
+  empty_bytes h is = let o : IsOutcome (all_synced []) (disk.bytes start) =
+      subst (λ (u : PendingState). IsOutcome u (disk.bytes start)) is (present start h) in let high = o.no_longer in
+      no_bytes (disk.bytes start) (omega (arith, high))
 
-  pub empty_leaves : (d : D) → disk.honest start → disk.unsynced start ≡ all_synced [] → Elapses (disk.moment start) (disk.moment d) (disk.crash_states_since start) (disk.crash_states_since d) (IsOutcome (disk.unsynced start)) → LeavesOnly disk.moment disk.crash_states_since start d (IsNewOrNone size)
-  empty_leaves d h is time = leaves_call disk.moment disk.crash_states_since start d (IsOutcome (disk.unsynced start)) (IsOutcome (disk.unsynced start)) (IsNewOrNone size) time (λ c left. only_now start c h left) none none
+  pub empty_leaves : (d : D) → disk.honest start → disk.unsynced start ≡ all_synced [] →
+      Elapses (disk.moment start) (disk.moment d) (disk.crash_states_since start) (disk.crash_states_since d)
+      (IsOutcome (disk.unsynced start)) → LeavesOnly disk.moment disk.crash_states_since start d (IsNewOrNone size)
+  empty_leaves d h is time = leaves_call disk.moment disk.crash_states_since start d
+      (IsOutcome (disk.unsynced start)) (IsOutcome (disk.unsynced start)) (IsNewOrNone size) time
+      (λ c left. only_now start c h left) none none
     where
       none : (c : List ℕ) → IsOutcome (disk.unsynced start) c → IsNewOrNone size c
-      none c o = let p : IsOutcome (all_synced []) c = subst (λ (u : PendingState). IsOutcome u c) is o in let high = p.no_longer in inl (none_short c (omega (arith, high)))
+      none c o = let p : IsOutcome (all_synced []) c = subst (λ (u : PendingState). IsOutcome u c) is o in
+          let high = p.no_longer in inl (none_short c (omega (arith, high)))
 
   module _ {d : D} (word : KeepsWord disk start d (IsOutcome (with_write (disk.unsynced start) 0 1))) where
     pub first_word : KeepsWord disk start d IsOfEmpty
     first_word = word_map (λ h c o is. first_none size c (subst (λ (u : PendingState). IsOutcome (with_write u 0 1) c) is o)) word
 
-    pub first_step : {S : Type 0} {x : S} → disk.calls d ≡ disk.calls start ++ Write ∷ Sync ∷ [] → CountsFaults (disk.faults start) (disk.faults d) (Ok x) → (disk.honest start → Written (disk.bytes start) 0 (0 ∷ []) (disk.bytes d)) → (disk.honest start → disk.unsynced d ≡ all_synced (disk.bytes d)) → SoFar d (Write ∷ Sync ∷ [])
+    pub first_step : {S : Type 0} {x : S} → disk.calls d ≡ disk.calls start ++ Write ∷ Sync ∷ [] →
+        CountsFaults (disk.faults start) (disk.faults d) (Ok x) →
+        (disk.honest start → Written (disk.bytes start) 0 (0 ∷ []) (disk.bytes d)) →
+        (disk.honest start → disk.unsynced d ≡ all_synced (disk.bytes d)) → SoFar d (Write ∷ Sync ∷ [])
     first_step called cause written sure = record {
       word = first_word;
       called = called;
       faults = cause.well refl;
-      firm = λ h. subst (λ (u : PendingState). IsSynced u 0 (0 ∷ [])) (sym (sure h)) (firm_settled (disk.bytes d) 0 (0 ∷ []) (holds_written (disk.bytes start) (0 ∷ []) (disk.bytes d) 0 (written h)));
+      firm = λ h. subst (λ (u : PendingState). IsSynced u 0 (0 ∷ [])) (sym (sure h))
+          (firm_settled (disk.bytes d) 0 (0 ∷ [])
+          (holds_written (disk.bytes start) (0 ∷ []) (disk.bytes d) 0 (written h)));
     }
 
   module _ {d : D} {done : List CallKind} (s : SoFar d done) where
-    pub cause_on : {e : D} {r : Result Unit DiskFault} → CountsFaults (disk.faults d) (disk.faults e) r → CountsFaults (disk.faults start) (disk.faults e) r
+    pub cause_on : {e : D} {r : Result Unit DiskFault} → CountsFaults (disk.faults d) (disk.faults e) r →
+        CountsFaults (disk.faults start) (disk.faults e) r
     cause_on {e} {r} cause = subst (λ (k : ℕ). CountsFaults k (disk.faults e) r) s.faults cause
 
     -- a write behind the closed gate of the header
@@ -174,14 +213,19 @@ module _ {D : Type 0} (disk : Ghosts D) (present : (d : D) → disk.honest d →
 
       module _ {e : D} (honest : SameHonesty disk d e) (time : Adds disk d e (with_write (disk.unsynced d) from n)) where
         pub write_word : KeepsWord disk start e IsOfEmpty
-        write_word = word_then s.word (word_call disk only_now honest time (λ h c o is. inl (none_shut c (firm_outcome (disk.unsynced d) 0 (0 ∷ []) c (s.firm (s.word.honest.1 h)) o))) (λ h c o is. all_none (s.word.honest.1 h) c o))
+        write_word = word_then s.word (word_call disk only_now honest time
+            (λ h c o is. inl (none_shut c (firm_outcome (disk.unsynced d) 0 (0 ∷ []) c (s.firm (s.word.honest.1 h))
+            o))) (λ h c o is. all_none (s.word.honest.1 h) c o))
 
-        pub write_step : disk.calls e ≡ disk.calls d ++ Write ∷ [] → {S : Type 0} {x : S} → CountsFaults (disk.faults d) (disk.faults e) (Ok x) → (disk.honest d → disk.unsynced e ≡ with_write (disk.unsynced d) from n) → SoFar e (done ++ Write ∷ [])
+        pub write_step : disk.calls e ≡ disk.calls d ++ Write ∷ [] → {S : Type 0} {x : S} →
+            CountsFaults (disk.faults d) (disk.faults e) (Ok x) →
+            (disk.honest d → disk.unsynced e ≡ with_write (disk.unsynced d) from n) → SoFar e (done ++ Write ∷ [])
         write_step called cause touch = record {
           word = write_word;
           called = calls_joined done (Write ∷ []) (disk.calls start) (disk.calls d) (disk.calls e) s.called called;
           faults = cause.well refl ∙ s.faults;
-          firm = λ h. subst (λ (u : PendingState). IsSynced u 0 (0 ∷ [])) (sym (touch (s.word.honest.0 h))) (firm_touched (disk.unsynced d) 0 from n (0 ∷ []) (inr (omega (arith, behind))) (s.firm h));
+          firm = λ h. subst (λ (u : PendingState). IsSynced u 0 (0 ∷ [])) (sym (touch (s.word.honest.0 h)))
+              (firm_touched (disk.unsynced d) 0 from n (0 ∷ []) (inr (omega (arith, behind))) (s.firm h));
         }
 
       -- and a sync
@@ -189,18 +233,28 @@ module _ {D : Type 0} (disk : Ghosts D) (present : (d : D) → disk.honest d →
         pub sync_word : KeepsWord disk start e IsOfEmpty
         sync_word = word_then s.word (word_map (λ h c o is. all_none (s.word.honest.1 h) c o) word)
 
-        pub sync_step : disk.calls e ≡ disk.calls d ++ Write ∷ Sync ∷ [] → {S : Type 0} {x : S} → CountsFaults (disk.faults d) (disk.faults e) (Ok x) → (piece : List ℕ) → (disk.honest d → Written (disk.bytes d) from piece (disk.bytes e)) → (disk.honest d → disk.unsynced e ≡ all_synced (disk.bytes e)) → SoFar e (done ++ Write ∷ Sync ∷ [])
+        pub sync_step : disk.calls e ≡ disk.calls d ++ Write ∷ Sync ∷ [] → {S : Type 0} {x : S} →
+            CountsFaults (disk.faults d) (disk.faults e) (Ok x) → (piece : List ℕ) →
+            (disk.honest d → Written (disk.bytes d) from piece (disk.bytes e)) →
+            (disk.honest d → disk.unsynced e ≡ all_synced (disk.bytes e)) → SoFar e (done ++ Write ∷ Sync ∷ [])
         sync_step called cause piece written sure = record {
           word = sync_word;
           called = calls_joined done (Write ∷ Sync ∷ []) (disk.calls start) (disk.calls d) (disk.calls e) s.called called;
           faults = cause.well refl ∙ s.faults;
           firm = λ h. let h1 = s.word.honest.0 h in subst (λ (u : PendingState). IsSynced u 0 (0 ∷ [])) (sym (sure h1))
-              (firm_settled (disk.bytes e) 0 (0 ∷ []) (holds_apart (disk.bytes d) piece (disk.bytes e) (0 ∷ []) from 0 (written h1) (inr (omega (arith, behind))) (firm_outcome (disk.unsynced d) 0 (0 ∷ []) (disk.bytes d) (s.firm h) (present d h1))));
+              (firm_settled (disk.bytes e) 0 (0 ∷ [])
+              (holds_apart (disk.bytes d) piece (disk.bytes e) (0 ∷ []) from 0 (written h1)
+              (inr (omega (arith, behind))) (firm_outcome (disk.unsynced d) 0 (0 ∷ []) (disk.bytes d) (s.firm h)
+              (present d h1))));
         }
 
     -- the last one
-    pub last_word : {e : D} → (disk.honest start → disk.bytes start ≡ [] → IsMade size (disk.bytes d)) → (disk.honest start → disk.unsynced d ≡ all_synced (disk.bytes d)) → KeepsWord disk d e (IsOutcome (with_write (disk.unsynced d) 0 1)) → KeepsWord disk start e IsOfEmpty
-    last_word made sure word = word_then s.word (word_map (λ h c o is. let h0 = s.word.honest.1 h in last_new size (disk.bytes d) c (made h0 (empty_bytes h0 is)) (subst (λ (u : PendingState). IsOutcome (with_write u 0 1) c) (sure h0) o)) word)
+    pub last_word : {e : D} → (disk.honest start → disk.bytes start ≡ [] → IsMade size (disk.bytes d)) →
+        (disk.honest start → disk.unsynced d ≡ all_synced (disk.bytes d)) →
+        KeepsWord disk d e (IsOutcome (with_write (disk.unsynced d) 0 1)) → KeepsWord disk start e IsOfEmpty
+    last_word made sure word = word_then s.word (word_map (λ h c o is. let h0 = s.word.honest.1 h in
+        last_new size (disk.bytes d) c (made h0 (empty_bytes h0 is))
+        (subst (λ (u : PendingState). IsOutcome (with_write u 0 1) c) (sure h0) o)) word)
 
 -- ---- what a new disk stands for
 written_known : IsVersion VERSION
@@ -220,14 +274,23 @@ module _ (size : ℕ) (c : List ℕ) (allowed : IsSlotSize size) (n : IsNewDisk 
   size_and_zeros = holds_back c 9 (HEADER_VERSION ∷ []) (to_be_bytes w64 size ++ replicate 46 0) behind_magic
 
   pub new_header : IsHeader c size
-  new_header = let long = n.made.long in let least = allowed.least in let zeros : Holds c 18 (replicate 46 0) = holds_back c 10 (to_be_bytes w64 size) (replicate 46 0) size_and_zeros in record {
-    formatted = record { long = omega (arith, long, least); gate = n.gate; magic_text = holds_front c 1 magic (HEADER_VERSION ∷ (to_be_bytes w64 size ++ replicate 46 0)) header };
-    version = byte_held c 9 HEADER_VERSION (to_be_bytes w64 size ++ replicate 46 0) behind_magic;
-    size_text = holds_front c 10 (to_be_bytes w64 size) (replicate 46 0) size_and_zeros;
-    allowed = allowed;
-    zeros = λ k low high. let there : 18 + (k - 18) ≡ k = omega (arith, low) in ap (λ (j : ℕ). slice_index c j) (sym there) ∙ zeros.same (k - 18) (omega (arith, low, high)) ∙ get_or-replicate 46 (k - 18) 0 0 (omega (arith, low, high));
-    long = omega (arith, long);
-  }
+  new_header = let long = n.made.long in let least = allowed.least in
+      let zeros : Holds c 18 (replicate 46 0) =
+      holds_back c 10 (to_be_bytes w64 size) (replicate 46 0) size_and_zeros in record {
+        formatted = record {
+          long = omega (arith, long, least);
+          gate = n.gate;
+          magic_text =
+              holds_front c 1 magic (HEADER_VERSION ∷ (to_be_bytes w64 size ++ replicate 46 0)) header;
+        };
+        version = byte_held c 9 HEADER_VERSION (to_be_bytes w64 size ++ replicate 46 0) behind_magic;
+        size_text = holds_front c 10 (to_be_bytes w64 size) (replicate 46 0) size_and_zeros;
+        allowed = allowed;
+        zeros = λ k low high. let there : 18 + (k - 18) ≡ k = omega (arith, low) in
+            ap (λ (j : ℕ). slice_index c j) (sym there) ∙ zeros.same (k - 18) (omega (arith, low, high)) ∙
+            get_or-replicate 46 (k - 18) 0 0 (omega (arith, low, high));
+        long = omega (arith, long);
+      }
 
   behind_gate : Holds c 65 (slot_text VERSION 1 0 empty_image)
   behind_gate = holds_back c 64 (OPEN ∷ []) (slot_text VERSION 1 0 empty_image) front
@@ -239,7 +302,8 @@ module _ (size : ℕ) (c : List ℕ) (allowed : IsSlotSize size) (n : IsNewDisk 
   new_head = let least = allowed.least in
       let version : Holds c 73 (VERSION ∷ Behind) = holds_back c 65 (to_be_bytes w64 1) (VERSION ∷ Behind) behind_gate in
       let base : Holds c 74 Behind = holds_back c 73 (VERSION ∷ []) Behind version in
-      let len : Holds c 82 (to_be_bytes w32 4 ++ empty_image) = holds_back c 74 (to_be_bytes w64 0) (to_be_bytes w32 4 ++ empty_image) base in
+      let len : Holds c 82 (to_be_bytes w32 4 ++ empty_image) =
+      holds_back c 74 (to_be_bytes w64 0) (to_be_bytes w32 4 ++ empty_image) base in
       let long = base.long in record {
         generation_is = record { small = lit< tt; text = holds_front c 65 (to_be_bytes w64 1) (VERSION ∷ Behind) behind_gate };
         version_is = record { long = omega (arith, long); is = byte_held c 73 VERSION Behind version; known = written_known };
@@ -254,7 +318,12 @@ module _ (size : ℕ) (c : List ℕ) (allowed : IsSlotSize size) (n : IsNewDisk 
         side = first;
         slot_is = refl;
         other_is = refl;
-        rules = record { there = omega (arith, long); opened = byte_held c 64 OPEN (slot_text VERSION 1 0 empty_image) front; over = inl (λ e. omega (arith, zero, e)) };
+        rules = record {
+          there = omega (arith, long);
+          opened =
+              byte_held c 64 OPEN (slot_text VERSION 1 0 empty_image) front;
+          over = inl (λ e. omega (arith, zero, e));
+        };
       }
 
   -- the second slot is closed
@@ -263,7 +332,9 @@ module _ (size : ℕ) (c : List ℕ) (allowed : IsSlotSize size) (n : IsNewDisk 
       let zero : slice_index c (64 + size) ≡ 0 = n.made.zeros (64 + size) (omega (arith, least)) (omega arith) in record {
         gate = 0;
         shut = λ e. omega (arith, e);
-        firm = subst (λ (v : PendingState). IsSynced v (64 + size) (0 ∷ [])) (sym sure) (firm_settled c (64 + size) (0 ∷ []) (subst (λ (x : ℕ). Holds c (64 + size) (x ∷ [])) zero (holds_byte c (64 + size) (omega (arith, long)))));
+        firm = subst (λ (v : PendingState). IsSynced v (64 + size) (0 ∷ [])) (sym sure)
+            (firm_settled c (64 + size) (0 ∷ [])
+            (subst (λ (x : ℕ). Holds c (64 + size) (x ∷ [])) zero (holds_byte c (64 + size) (omega (arith, long)))));
       }
 
   pub new_ends : Ends 64 (64 + size) new_front c
@@ -271,7 +342,8 @@ module _ (size : ℕ) (c : List ℕ) (allowed : IsSlotSize size) (n : IsNewDisk 
       let zero : slice_index c 90 ≡ 0 = n.made.zeros 90 (lit≤ tt) (omega (arith, least)) in record {
         gate = 0;
         shut = λ e. omega (arith, e);
-        holds = holds_append c 64 new_front (0 ∷ []) front (subst (λ (x : ℕ). Holds c 90 (x ∷ [])) zero (holds_byte c 90 (omega (arith, long, least))));
+        holds = holds_append c 64 new_front (0 ∷ []) front
+            (subst (λ (x : ℕ). Holds c 90 (x ∷ [])) zero (holds_byte c 90 (omega (arith, long, least))));
         within = omega (arith, least);
       }
 
@@ -285,7 +357,8 @@ module _ (size : ℕ) (slot : Slot) (at : slot ≡ first_slot size) where
     )
 
     pub opened_front : slice_range (set items 64 OPEN) slot.start 90 ≡ new_front
-    opened_front = subst (λ (s : Slot). slice_range (set items 64 OPEN) s.start 90 ≡ new_front) (sym at) (subst (λ (t : List ℕ). slice_range (set t 64 OPEN) 64 90 ≡ new_front) (sym is) refl)
+    opened_front = subst (λ (s : Slot). slice_range (set items 64 OPEN) s.start 90 ≡ new_front) (sym at)
+        (subst (λ (t : List ℕ). slice_range (set t 64 OPEN) 64 90 ≡ new_front) (sym is) refl)
 
   pub first_within : IsSlotSize size → 90 < slot.stop
   first_within allowed = let least = allowed.least in subst (λ (s : Slot). 90 < s.stop) (sym at) (omega (arith, least))
@@ -295,7 +368,10 @@ module _ (size : ℕ) (slot : Slot) (at : slot ≡ first_slot size) where
     two_apart = subst (λ (s : Slot). s.stop ≤ other.start) (sym at) (subst (λ (s : Slot). 64 + size ≤ s.start) (sym beside) (omega arith))
 
     pub two_wide : IsSlotSize size → (other.start + 9 ≤ other.stop) × (slot.start + 9 ≤ slot.stop)
-    two_wide allowed = let least = allowed.least in (subst (λ (s : Slot). s.start + 9 ≤ s.stop) (sym beside) (omega (arith, least)), subst (λ (s : Slot). s.start + 9 ≤ s.stop) (sym at) (omega (arith, least)))
+    two_wide allowed = let least = allowed.least in (
+      subst (λ (s : Slot). s.start + 9 ≤ s.stop) (sym beside) (omega (arith, least)),
+      subst (λ (s : Slot). s.start + 9 ≤ s.stop) (sym at) (omega (arith, least)),
+    )
 
 pub new_is_front : (text : List ℕ) → text ≡ new_front → slots.IsFrontOf VERSION 1 text
 new_is_front text is = record { rest = to_be_bytes w64 0 ++ (to_be_bytes w32 4 ++ empty_image); front_is = is }

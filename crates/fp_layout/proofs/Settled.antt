@@ -14,7 +14,9 @@ settled_one b c o =
 
 -- and nothing that it couldn't have left before
 pub settled_outcome : (u v : PendingState) (b c : List ℕ) → v ≡ all_synced b → IsOutcome u b → IsOutcome v c → IsOutcome u c
-settled_outcome u v b c sure now o = subst (λ (x : List ℕ). IsOutcome u x) (sym (settled_one b c (subst (λ (w : PendingState). IsOutcome w c) sure o))) now
+settled_outcome u v b c sure now o =
+    subst (λ (x : List ℕ). IsOutcome u x)
+    (sym (settled_one b c (subst (λ (w : PendingState). IsOutcome w c) sure o))) now
 
 -- ---- a write, and a sync
 touched_outcome : (u : PendingState) (at n : ℕ) (c : List ℕ) → IsOutcome u c → IsOutcome (with_write u at n) c
@@ -25,13 +27,16 @@ touched_outcome u at n c o = let high = o.no_longer in record {
   kept = λ k lt out. o.kept k lt (λ covers. out (inr covers));
 }
 
-module _ {D : Type 0} (disk : Ghosts D) (only_now : OnlyNow disk) {old middle : D} {at n : ℕ} (honest : SameHonesty disk old middle) (time : Adds disk old middle (with_write (disk.unsynced old) at n)) where
+module _ {D : Type 0} (disk : Ghosts D) (only_now : OnlyNow disk) {old middle : D} {at n : ℕ}
+    (honest : SameHonesty disk old middle) (time : Adds disk old middle (with_write (disk.unsynced old) at n)) where
   abbrev Touched : List ℕ → Type 0
   Touched c = IsOutcome (with_write (disk.unsynced old) at n) c
 
   pub write_word : KeepsWord disk old middle Touched
   write_word = word_call disk only_now honest time (λ h. touched_outcome (disk.unsynced old) at n) (λ h c out. out)
 
-  pub written_word : {new : D} → (disk.honest old → disk.unsynced middle ≡ with_write (disk.unsynced old) at n) → SameHonesty disk middle new → Adds disk middle new (disk.unsynced middle) → KeepsWord disk old new Touched
-  written_word touch same later = let now : EachCrash disk middle Touched = λ h c out. subst (λ (u : PendingState). IsOutcome u c) (touch (honest.1 h)) out in
+  pub written_word : {new : D} → (disk.honest old → disk.unsynced middle ≡ with_write (disk.unsynced old) at n) →
+      SameHonesty disk middle new → Adds disk middle new (disk.unsynced middle) → KeepsWord disk old new Touched
+  written_word touch same later = let now : EachCrash disk middle Touched =
+      λ h c out. subst (λ (u : PendingState). IsOutcome u c) (touch (honest.1 h)) out in
       word_then write_word (word_call disk only_now same later now now)

@@ -21,8 +21,10 @@ fault : (o : Result Said EvalFault) (e : EvalFault) → outcome_spelled o ≡ Er
 fault (Ok s) e h = absurd (cc)
 fault (Err f) e h = ap Err (ap (err_or f) h)
 
-pub disabled : (o : Result Said EvalFault) (e : EvalFault) → e ≡ Disabled → Gives spelled_by Tells (Err e) (outcome_spelled o) → o ≡ Err Disabled
+pub disabled : (o : Result Said EvalFault) (e : EvalFault) → e ≡ Disabled →
+    Gives spelled_by Tells (Err e) (outcome_spelled o) → o ≡ Err Disabled
 disabled o e same h = fault o Disabled (subst (λ x. Gives spelled_by Tells (Err x) (outcome_spelled o)) same h)
 
-pub no_variant : (o : Result Said EvalFault) (e : EvalFault) → e ≡ NoVariant → Gives spelled_by Tells (Err e) (outcome_spelled o) → o ≡ Err NoVariant
+pub no_variant : (o : Result Said EvalFault) (e : EvalFault) → e ≡ NoVariant →
+    Gives spelled_by Tells (Err e) (outcome_spelled o) → o ≡ Err NoVariant
 no_variant o e same h = fault o NoVariant (subst (λ x. Gives spelled_by Tells (Err x) (outcome_spelled o)) same h)

@@ -1,5 +1,6 @@
 -- Tags that are kept: of which requests they are, and that no moment changes them.
-use Rattle.std.proofs.Common.{◌≡◌, ◌≤◌, ◌<◌, ℕ, List, [], ◌∷◌, ◌++◌, set, length-append, Bool, true, false, subst, inl, inr, refl, sym, ap, ◌∙◌, length, arith}
+use Rattle.std.proofs.Common.{◌≡◌, ◌≤◌, ◌<◌, ℕ, List, [], ◌∷◌, ◌++◌, set, length-append, Bool, true, false, subst, inl}
+use Rattle.std.proofs.Common.{inr, refl, sym, ap, ◌∙◌, length, arith}
 use Rattle.std.specs.Prelude.{Option, Some, Result, Ok, Err, bytes_eq, codes, if◌then◌else◌, unwrap_or}
 use Rattle.std.specs.FinMap as map
 use Rattle.std.specs.Result.{result_unwrap_or}
@@ -27,7 +28,8 @@ use Rattle.fp_ofrep.specs.declared.failure.Failure.{Failure}
 
 -- ---- moments
 
-pub timeless_more : (e : List ℕ × Flag) (es : List (List ℕ × Flag)) → IsTimeless (data_of e.1.definition) → AreTimeless es → AreTimeless (e ∷ es)
+pub timeless_more : (e : List ℕ × Flag) (es : List (List ℕ × Flag)) → IsTimeless (data_of e.1.definition) →
+    AreTimeless es → AreTimeless (e ∷ es)
 timeless_more e es first rest = All-cons (λ (x : List ℕ × Flag). IsTimeless (data_of x.1.definition)) e es first rest
 
 flag_items-timeless : (es : List (List ℕ × Flag)) → AreTimeless es → (context : Data) (now later : ℕ)
@@ -43,7 +45,8 @@ flag_items-timeless (e ∷ es) h context now later =
 bulk_data-timeless : (flags : Flags) → AreTimeless (map.entries flags) → (context : Data) (now later : ℕ)
     → bulk_data flags context now ≡ bulk_data flags context later
 bulk_data-timeless flags h context now later =
-    ap (λ (items : Items). object (member (codes "flags") (array items) no_members)) (flag_items-timeless (map.entries flags) h context now later)
+    ap (λ (items : Items). object (member (codes "flags") (array items) no_members))
+    (flag_items-timeless (map.entries flags) h context now later)
 
 -- a tag at one moment is one at each
 pub at_any_moment : (set : State) (body tag : List ℕ) → AreTimeless (map.entries set.flags) → ((now : ℕ) × HasTag set body tag now)
@@ -59,7 +62,8 @@ at_any_moment set body tag h found later = let t = found.1 in record {
 abbrev HasTagOf : FrontState → KeptTag → Type 0
 HasTagOf front k = (now : ℕ) × HasTag (front_set front) k.body.items k.tag.items now
 
-module _ (front : FrontState) (ks : List KeptTag) (k : KeptTag) (were : AreKept front true ks) (tag : HasTagOf front k) (short : length k.body.items ≤ LONGEST_KEPT_BODY) where
+module _ (front : FrontState) (ks : List KeptTag) (k : KeptTag) (were : AreKept front true ks)
+    (tag : HasTagOf front k) (short : length k.body.items ≤ LONGEST_KEPT_BODY) where
   its : IsTagOf (front_set front) k.body.items k.tag.items
   its = at_any_moment (front_set front) k.body.items k.tag.items (were.rules refl) tag
 
@@ -80,10 +84,13 @@ module _ (front : FrontState) (ks : List KeptTag) (k : KeptTag) (were : AreKept 
   }
 
 -- what a tag was put among is kept as before
-pub put_kept : (front : FrontState) (timeless : Bool) (ks after : List KeptTag) (k : KeptTag) (place : ℕ) → timeless ≡ true → AreKept front timeless ks
-    → HasTagOf front k → length k.body.items ≤ LONGEST_KEPT_BODY → place < MOST_KEPT_TAGS → IsPutAt ks place k after → AreKept front timeless after
+pub put_kept : (front : FrontState) (timeless : Bool) (ks after : List KeptTag) (k : KeptTag) (place : ℕ) →
+    timeless ≡ true → AreKept front timeless ks
+    → HasTagOf front k → length k.body.items ≤ LONGEST_KEPT_BODY → place < MOST_KEPT_TAGS →
+    IsPutAt ks place k after → AreKept front timeless after
 put_kept front false ks after k place h were tag short few put = absurd (cc)
-put_kept front true ks after k place h were tag short few (inl p) = subst (AreKept front true) (sym p.1) (in_place front ks k were tag short place)
+put_kept front true ks after k place h were tag short few (inl p) =
+    subst (AreKept front true) (sym p.1) (in_place front ks k were tag short place)
 put_kept front true ks after k place h were tag short few (inr p) =
     subst (AreKept front true) (sym p.1) (behind front ks k were tag short (omega (arith, few, p.0)))
 

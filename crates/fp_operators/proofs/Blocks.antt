@@ -30,20 +30,28 @@ first_four (a ∷ b ∷ c ∷ []) h = absurd (omega arith)
 first_four (a ∷ b ∷ c ∷ d ∷ xs) h = ap (λ ys. a ∷ b ∷ c ∷ d ∷ ys) (take_all (length (a ∷ b ∷ c ∷ d ∷ xs) - 4) xs (omega arith))
 
 -- a block in front of other bytes
-pub block-then : (h m : ℕ) (xs ys : List ℕ) → 4 ≤ length xs → m ≡ mixed h (word (slice_index xs 0) (slice_index xs 1) (slice_index xs 2) (slice_index xs 3)) → absorbed m (behind 4 xs ++ ys) ≡ absorbed h (xs ++ ys)
+pub block-then : (h m : ℕ) (xs ys : List ℕ) → 4 ≤ length xs →
+    m ≡ mixed h (word (slice_index xs 0) (slice_index xs 1) (slice_index xs 2) (slice_index xs 3)) →
+    absorbed m (behind 4 xs ++ ys) ≡ absorbed h (xs ++ ys)
 block-then h m xs ys long e = ap (λ s. absorbed s (behind 4 xs ++ ys)) e ∙ ap (λ zs. absorbed h (zs ++ ys)) (first_four xs long)
 
-pub block : (h m : ℕ) (xs : List ℕ) → 4 ≤ length xs → m ≡ mixed h (word (slice_index xs 0) (slice_index xs 1) (slice_index xs 2) (slice_index xs 3)) → absorbed m (behind 4 xs) ≡ absorbed h xs
+pub block : (h m : ℕ) (xs : List ℕ) → 4 ≤ length xs →
+    m ≡ mixed h (word (slice_index xs 0) (slice_index xs 1) (slice_index xs 2) (slice_index xs 3)) →
+    absorbed m (behind 4 xs) ≡ absorbed h xs
 block h m xs long e = ap (λ s. absorbed s (behind 4 xs)) e ∙ ap (absorbed h) (first_four xs long)
 
 -- a block that begins in front of them
-pub block-after_one : (h m a : ℕ) (xs : List ℕ) → 3 ≤ length xs → m ≡ mixed h (word a (slice_index xs 0) (slice_index xs 1) (slice_index xs 2)) → absorbed m (behind 3 xs) ≡ absorbed h (a ∷ xs)
+pub block-after_one : (h m a : ℕ) (xs : List ℕ) → 3 ≤ length xs →
+    m ≡ mixed h (word a (slice_index xs 0) (slice_index xs 1) (slice_index xs 2)) →
+    absorbed m (behind 3 xs) ≡ absorbed h (a ∷ xs)
 block-after_one h m a xs long e = ap (λ s. absorbed s (behind 3 xs)) e ∙ ap (λ zs. absorbed h (a ∷ zs)) (first_three xs long)
 
-pub block-after_two : (h m a b : ℕ) (xs : List ℕ) → 2 ≤ length xs → m ≡ mixed h (word a b (slice_index xs 0) (slice_index xs 1)) → absorbed m (behind 2 xs) ≡ absorbed h (a ∷ b ∷ xs)
+pub block-after_two : (h m a b : ℕ) (xs : List ℕ) → 2 ≤ length xs →
+    m ≡ mixed h (word a b (slice_index xs 0) (slice_index xs 1)) → absorbed m (behind 2 xs) ≡ absorbed h (a ∷ b ∷ xs)
 block-after_two h m a b xs long e = ap (λ s. absorbed s (behind 2 xs)) e ∙ ap (λ zs. absorbed h (a ∷ b ∷ zs)) (first_two xs long)
 
-pub block-after_three : (h m a b c : ℕ) (xs : List ℕ) → 1 ≤ length xs → m ≡ mixed h (word a b c (slice_index xs 0)) → absorbed m (behind 1 xs) ≡ absorbed h (a ∷ b ∷ c ∷ xs)
+pub block-after_three : (h m a b c : ℕ) (xs : List ℕ) → 1 ≤ length xs → m ≡ mixed h (word a b c (slice_index xs 0)) →
+    absorbed m (behind 1 xs) ≡ absorbed h (a ∷ b ∷ c ∷ xs)
 block-after_three h m a b c xs long e = ap (λ s. absorbed s (behind 1 xs)) e ∙ ap (λ zs. absorbed h (a ∷ b ∷ c ∷ zs)) (first_one xs long)
 
 -- a few bytes in front of others

@@ -1,5 +1,7 @@
 -- Numbers, their decimal texts and their remainders.
-use Rattle.std.proofs.Common.{◌≡◌, ◌≢◌, ℕ, zero, suc, ◌<◌, ◌≤◌, ◌^◌, ◌%◌, ℤ, pos, negsuc, neg_ℤ, ◌≤ℤ◌, List, [], ◌∷◌, length, true, false, ◌&&◌, ◌==◌, nat_le, nat_lt, Some, if◌then◌else◌, w64, refl, ap, ◌∙◌, arith}
+use Rattle.std.proofs.Common.{◌≡◌, ◌≢◌, ℕ, zero, suc, ◌<◌, ◌≤◌, ◌^◌, ◌%◌, ℤ, pos, negsuc, neg_ℤ, ◌≤ℤ◌, List, [], ◌∷◌}
+use Rattle.std.proofs.Common.{length, true, false, ◌&&◌, ◌==◌, nat_le, nat_lt, Some, if◌then◌else◌, w64, refl, ap, ◌∙◌}
+use Rattle.std.proofs.Common.{arith}
 use Rattle.std.proofs.Math.Nat.{zero-mod}
 use Rattle.std.specs.Prelude.{FitsSigned, int_rem, int_div, unsigned_abs}
 use Rattle.std.specs.Ordering.{int_eq}
@@ -24,9 +26,13 @@ numeral_decimal n h =
 unsigned_text : (bs : List ℕ) → is_numeral bs ≡ true → digits_value 10 bs < 2 ^ 63 → whole_number_of bs ≡ Some (pos (digits_value 10 bs))
 unsigned_text [] h k = cc h
 unsigned_text (b ∷ ds) h k =
-    elim (b == 45) as (λ t. b == 45 ≡ t → (if t then only_if (is_numeral ds && nat_le (digits_value 10 ds) (2 ^ 63)) (neg_ℤ (pos (digits_value 10 ds))) else only_if (is_numeral (b ∷ ds) && nat_lt (digits_value 10 (b ∷ ds)) (2 ^ 63)) (pos (digits_value 10 (b ∷ ds)))) ≡ Some (pos (digits_value 10 (b ∷ ds)))) [
+    elim (b == 45) as (λ t. b == 45 ≡ t →
+    (if t then only_if (is_numeral ds && nat_le (digits_value 10 ds) (2 ^ 63)) (neg_ℤ (pos (digits_value 10 ds)))
+    else only_if (is_numeral (b ∷ ds) && nat_lt (digits_value 10 (b ∷ ds)) (2 ^ 63))
+    (pos (digits_value 10 (b ∷ ds)))) ≡ Some (pos (digits_value 10 (b ∷ ds)))) [
       | true ↦ λ e. let is : b ≡ 45 = grind (arith, e) in let none : false ≡ true = rw is at h in cc none
-      | false ↦ λ e. let below : is_numeral (b ∷ ds) && nat_lt (digits_value 10 (b ∷ ds)) (2 ^ 63) ≡ true = grind (arith, h, k) in ap (λ t. only_if t (pos (digits_value 10 (b ∷ ds)))) below
+      | false ↦ λ e. let below : is_numeral (b ∷ ds) && nat_lt (digits_value 10 (b ∷ ds)) (2 ^ 63) ≡ true =
+          grind (arith, h, k) in ap (λ t. only_if t (pos (digits_value 10 (b ∷ ds)))) below
     ] refl
 
 pub decimal_reads_back : (z : ℤ) → FitsSigned w64 z → whole_number_of (signed_decimal z) ≡ Some z
@@ -37,7 +43,8 @@ decimal_reads_back (pos n) h =
 decimal_reads_back (negsuc n) h =
     let small : suc n ≤ 2 ^ 63 = omega (arith, ints, h.sfits) in
     let value : digits_value 10 (decimal (suc n)) ≡ suc n = digits_value-decimal numerals (suc n) (omega arith) in
-    let passes : is_numeral (decimal (suc n)) && nat_le (digits_value 10 (decimal (suc n))) (2 ^ 63) ≡ true = grind (arith, numeral_decimal (suc n) (omega arith), small, value) in
+    let passes : is_numeral (decimal (suc n)) && nat_le (digits_value 10 (decimal (suc n))) (2 ^ 63) ≡ true =
+    grind (arith, numeral_decimal (suc n) (omega arith), small, value) in
     ap (λ t. only_if t (neg_ℤ (pos (digits_value 10 (decimal (suc n)))))) passes ∙ ap (λ m. Some (neg_ℤ (pos m))) value
 
 -- remainders

@@ -1,5 +1,7 @@
 -- What the order of data is.
-use Rattle.std.proofs.Common.{◌≡◌, ◌≢◌, ◌<ℤ◌, ℕ, ℤ, List, Bool, true, false, ◌||◌, bytes_eq, Option, Some, None, is_some, option_map, Ordering, Less, Equal, Greater, is_lt, is_le, is_eq, int_cmp, nat_cmp, refl, sym, ap, ◌∙◌, arith}
+use Rattle.std.proofs.Common.{◌≡◌, ◌≢◌, ◌<ℤ◌, ℕ, ℤ, List, Bool, true, false, ◌||◌, bytes_eq, Option, Some, None}
+use Rattle.std.proofs.Common.{is_some, option_map, Ordering, Less, Equal, Greater, is_lt, is_le, is_eq, int_cmp}
+use Rattle.std.proofs.Common.{nat_cmp, refl, sym, ap, ◌∙◌, arith}
 use Rattle.std.specs.Ordering.{ordering_reverse, int_eq, is_some_and, MatchOrdering}
 use Rattle.std.specs.Cmp.Lexicographic.{slice_cmp}
 use Rattle.std.proofs.lemmas.Int.{ints}
@@ -50,11 +52,13 @@ by_rank Greater x y h = unequal x y (λ e. omega (arith, ints))
 int_equal : (x y : ℤ) → is_some_and is_eq (Some (int_cmp x y)) ≡ int_eq x y
 int_equal x y = by_rank (int_cmp x y) x y (int_ranked x y (int_cmp x y) refl)
 
-number_right : (x : ℤ) (n : Option ℤ) → is_some (option_map (λ y. int_cmp x y) n) ≡ true → is_some_and is_eq (option_map (λ y. int_cmp x y) n) ≡ is_number n x
+number_right : (x : ℤ) (n : Option ℤ) → is_some (option_map (λ y. int_cmp x y) n) ≡ true →
+    is_some_and is_eq (option_map (λ y. int_cmp x y) n) ≡ is_number n x
 number_right x None h = refl
 number_right x (Some y) h = int_equal x y ∙ int_eq_equiv.symm x y
 
-number_left : (y : ℤ) (n : Option ℤ) → is_some (option_map (λ x. int_cmp x y) n) ≡ true → is_some_and is_eq (option_map (λ x. int_cmp x y) n) ≡ is_number n y
+number_left : (y : ℤ) (n : Option ℤ) → is_some (option_map (λ x. int_cmp x y) n) ≡ true →
+    is_some_and is_eq (option_map (λ x. int_cmp x y) n) ≡ is_number n y
 number_left y None h = refl
 number_left y (Some x) h = int_equal x y
 
@@ -70,7 +74,8 @@ order_equal (text s) (whole y) h = number_left y (whole_number_of s) h ∙ sym (
 order_equal (text s) (text t) h = is_eq-slice_cmp s t ∙ sym (or_nothing (bytes_eq s t || false) ∙ or_nothing (bytes_eq s t))
 order_equal a b h = cc h
 
-one_of : (o : Option Ordering) → is_some o ≡ true → exactly_one (is_some_and is_lt o) (is_some_and is_eq o) (is_some_and is_lt (option_map ordering_reverse o)) ≡ true
+one_of : (o : Option Ordering) → is_some o ≡ true →
+    exactly_one (is_some_and is_lt o) (is_some_and is_eq o) (is_some_and is_lt (option_map ordering_reverse o)) ≡ true
 one_of None h = cc h
 one_of (Some Less) h = refl
 one_of (Some Equal) h = refl
@@ -93,8 +98,10 @@ less_is Less h = refl
 less_is Equal h = cc h
 less_is Greater h = cc h
 
-pub numbers_ascend : (x y z : ℤ) → is_below (whole x) (whole y) ≡ true → is_below (whole y) (whole z) ≡ true → is_below (whole x) (whole z) ≡ true
+pub numbers_ascend : (x y z : ℤ) → is_below (whole x) (whole y) ≡ true → is_below (whole y) (whole z) ≡ true →
+    is_below (whole x) (whole z) ≡ true
 numbers_ascend x y z h k = ap is_lt (int_cmp_total.trans x y z (less_is (int_cmp x y) h) (less_is (int_cmp y z) k))
 
-pub texts_ascend : (s t u : List ℕ) → is_below (text s) (text t) ≡ true → is_below (text t) (text u) ≡ true → is_below (text s) (text u) ≡ true
+pub texts_ascend : (s t u : List ℕ) → is_below (text s) (text t) ≡ true → is_below (text t) (text u) ≡ true →
+    is_below (text s) (text u) ≡ true
 texts_ascend s t u h k = ap is_lt (nat_list_cmp_total.trans s t u (less_is (slice_cmp nat_cmp s t) h) (less_is (slice_cmp nat_cmp t u) k))

@@ -1,5 +1,7 @@
 -- Paths, a part at a time, and what a part names.
-use Rattle.std.proofs.Common.{◌≡◌, ◌≢◌, ℕ, zero, suc, ◌<◌, ◌≤◌, List, [], ◌∷◌, ◌++◌, length, get_or, String, Global, Option, Some, None, option_map, option_and_then, is_eq, Ordering, Less, Equal, Greater, cond, Bor, refl, sym, ap, arith, ne_eqb, ◌==◌, Bool, ◌∙◌, true, false, if◌then◌else◌}
+use Rattle.std.proofs.Common.{◌≡◌, ◌≢◌, ℕ, zero, suc, ◌<◌, ◌≤◌, List, [], ◌∷◌, ◌++◌, length, get_or, String, Global}
+use Rattle.std.proofs.Common.{Option, Some, None, option_map, option_and_then, is_eq, Ordering, Less, Equal, Greater}
+use Rattle.std.proofs.Common.{cond, Bor, refl, sym, ap, arith, ne_eqb, ◌==◌, Bool, ◌∙◌, true, false, if◌then◌else◌}
 use Rattle.std.specs.Ordering.{nat_cmp}
 use Rattle.std.specs.Cmp.Lexicographic.{slice_cmp}
 use Rattle.std.specs.Slice.{IsItemAt}
@@ -47,19 +49,25 @@ item_past (v ∷ vs) zero h = absurd (omega arith)
 item_past (v ∷ vs) (suc i) h = item_past vs i (omega arith)
 
 -- what `get` returns
-pub item_found : (vs : List Datum) (i : ℕ) (r : Option (Bor Datum)) → IsItemAt vs i r → option_map (λ d. view d.now) r ≡ item_at i (items_view vs)
+pub item_found : (vs : List Datum) (i : ℕ) (r : Option (Bor Datum)) → IsItemAt vs i r →
+    option_map (λ d. view d.now) r ≡ item_at i (items_view vs)
 item_found vs i None h = item_past vs i h.3
 item_found vs i (Some x) h = ap (λ v. Some (view v)) h.1 ∙ item_within vs i x.now h.3.0
 
 -- an object's members
-found_at : (b : Bool) (v : Datum) (rest : Option Datum) (d : Option Data) → option_map view rest ≡ d → option_map view (cond b (Some v) rest) ≡ (if b then Some (view v) else d)
+found_at : (b : Bool) (v : Datum) (rest : Option Datum) (d : Option Data) → option_map view rest ≡ d →
+    option_map view (cond b (Some v) rest) ≡ (if b then Some (view v) else d)
 found_at true v rest d e = refl
 found_at false v rest d e = e
 
-pub view-lookup : (name : List ℕ) (es : List (String Global × Datum)) → option_map view (lookup (is_at (λ k. slice_cmp nat_cmp name (string_bytes k))) es) ≡ member_at name (members_view es)
+pub view-lookup : (name : List ℕ) (es : List (String Global × Datum)) →
+    option_map view (lookup (is_at (λ k. slice_cmp nat_cmp name (string_bytes k))) es) ≡ member_at name
+    (members_view es)
 view-lookup name [] = refl
 view-lookup name (e ∷ es) =
-    found_at (is_eq (slice_cmp nat_cmp name (string_bytes e.0))) e.1 (lookup (is_at (λ k. slice_cmp nat_cmp name (string_bytes k))) es) (member_at name (members_view es)) (view-lookup name es)
+    found_at (is_eq (slice_cmp nat_cmp name (string_bytes e.0))) e.1
+    (lookup (is_at (λ k. slice_cmp nat_cmp name (string_bytes k))) es) (member_at name (members_view es))
+    (view-lookup name es)
     ∙ ap (λ b. if b then Some (view e.1) else member_at name (members_view es)) (is_eq-slice_cmp name (string_bytes e.0))
 
 pub is_eq-not : (o : Ordering) → o ≢ Equal → is_eq o ≡ false
@@ -68,12 +76,14 @@ is_eq-not Equal h = absurd (h refl)
 is_eq-not Greater h = refl
 
 -- a name that comes before the first of ascending members is none of theirs
-pub member_at-before : (name : List ℕ) (e : String Global × Datum) (es : List (String Global × Datum)) → IsStrictlySortedBy string_cmp (keys_of (e ∷ es))
+pub member_at-before : (name : List ℕ) (e : String Global × Datum) (es : List (String Global × Datum)) →
+    IsStrictlySortedBy string_cmp (keys_of (e ∷ es))
     → slice_cmp nat_cmp name (string_bytes e.0) ≡ Less → member_at name (members_view (e ∷ es)) ≡ None
 unfolding IsStrictlySortedBy
 member_at-before name e [] h before = rw (sym (is_eq-slice_cmp name (string_bytes e.0)), before) refl
 member_at-before name e (next ∷ es) h before =
-    let further : slice_cmp nat_cmp name (string_bytes next.0) ≡ Less = nat_list_cmp_total.trans name (string_bytes e.0) (string_bytes next.0) before h.0.0 in
+    let further : slice_cmp nat_cmp name (string_bytes next.0) ≡ Less =
+    nat_list_cmp_total.trans name (string_bytes e.0) (string_bytes next.0) before h.0.0 in
     rw (sym (is_eq-slice_cmp name (string_bytes e.0)), before) (member_at-before name next es h.1 further)
 
 pub view_of_ref : (r : Option (Bor Datum)) → option_map (λ x. view x.now) r ≡ option_map view (option_map (λ x. x.now) r)

@@ -1,5 +1,6 @@
 -- A map of data beside the members that it stands for.
-use Rattle.std.proofs.Common.{◌≡◌, ℕ, List, [], ◌∷◌, ◌++◌, map, String, Global, Ordering, Less, Equal, Greater, string_bytes, string_cmp, nat_cmp, refl, sym, ap, subst, ◌∙◌}
+use Rattle.std.proofs.Common.{◌≡◌, ℕ, List, [], ◌∷◌, ◌++◌, map, String, Global, Ordering, Less, Equal, Greater}
+use Rattle.std.proofs.Common.{string_bytes, string_cmp, nat_cmp, refl, sym, ap, subst, ◌∙◌}
 use Rattle.std.specs.Ordering.{match_ordering}
 use Rattle.std.specs.BTreeMap.{insert_entry}
 use Rattle.std.specs.Cmp.Lexicographic.{slice_cmp}
@@ -26,24 +27,29 @@ use Rattle.fp_operators.specs.declared.datum.Datum.{Datum}
 abbrev pub Entry : Type 0
 Entry = String Global × Datum
 
-members_view-match_ordering : (o : Ordering) (a b c : List Entry) → members_view (match_ordering o a b c) ≡ match_ordering o (members_view a) (members_view b) (members_view c)
+members_view-match_ordering : (o : Ordering) (a b c : List Entry) →
+    members_view (match_ordering o a b c) ≡ match_ordering o (members_view a) (members_view b) (members_view c)
 members_view-match_ordering Less a b c = refl
 members_view-match_ordering Equal a b c = refl
 members_view-match_ordering Greater a b c = refl
 
-pub members_view-insert_entry : (es : List Entry) (k : String Global) (v : Datum) → members_view (insert_entry string_cmp es k v) ≡ put (string_bytes k) (view v) (members_view es)
+pub members_view-insert_entry : (es : List Entry) (k : String Global) (v : Datum) →
+    members_view (insert_entry string_cmp es k v) ≡ put (string_bytes k) (view v) (members_view es)
 members_view-insert_entry [] k v = refl
 members_view-insert_entry (e ∷ es) k v = members_view-match_ordering (string_cmp k e.0) _ _ _ ∙ rw (members_view-insert_entry es k v)
 
-members_from-match_ordering : (o : Ordering) (a b c : json.Members) → members_from (match_ordering o a b c) ≡ match_ordering o (members_from a) (members_from b) (members_from c)
+members_from-match_ordering : (o : Ordering) (a b c : json.Members) →
+    members_from (match_ordering o a b c) ≡ match_ordering o (members_from a) (members_from b) (members_from c)
 members_from-match_ordering Less a b c = refl
 members_from-match_ordering Equal a b c = refl
 members_from-match_ordering Greater a b c = refl
 
-pub members_from-put : (k : List ℕ) (d : json.Data) (ms : json.Members) → members_from (json.put k d ms) ≡ put k (data_of d) (members_from ms)
+pub members_from-put : (k : List ℕ) (d : json.Data) (ms : json.Members) →
+    members_from (json.put k d ms) ≡ put k (data_of d) (members_from ms)
 members_from-put k d json.no_members = refl
 members_from-put k d (json.member l e ms) =
-    members_from-match_ordering (slice_cmp nat_cmp k l) (json.member k d (json.member l e ms)) (json.member l d ms) (json.member l e (json.put k d ms))
+    members_from-match_ordering (slice_cmp nat_cmp k l) (json.member k d (json.member l e ms)) (json.member l d ms)
+    (json.member l e (json.put k d ms))
     ∙ rw (members_from-put k d ms)
 
 -- the items of a list, one by one
@@ -76,7 +82,8 @@ filled-more found k d left all f = record {
 pub filled-whole : (found : Members) (all : json.Members) → IsFilledTo found json.no_members all → found ≡ members_from all
 filled-whole found all f = f.is ∙ ap members_from (sym (append-none f.done) ∙ f.split)
 
-below_middle : (first : Entry) (es : List Entry) (e : Entry) (more : List Entry) → AllByRecursion (λ y. string_cmp first.0 y ≡ Less) (keys_of (es ++ e ∷ more)) → string_cmp first.0 e.0 ≡ Less
+below_middle : (first : Entry) (es : List Entry) (e : Entry) (more : List Entry) →
+    AllByRecursion (λ y. string_cmp first.0 y ≡ Less) (keys_of (es ++ e ∷ more)) → string_cmp first.0 e.0 ≡ Less
 below_middle first [] e more h = h.0
 below_middle first (x ∷ es) e more h = below_middle first es e more h.1
 
@@ -142,7 +149,8 @@ sorted-bare : (ms : List tree.Entry) → IsSorted (tree_members ms) → IsSorted
 sorted-bare [] h = tt
 sorted-bare (m ∷ ms) h = (below-bare m.0.now ms h.0, sorted-bare ms h.1)
 
-pub collected : (xs : List Entry) (ms : List tree.Entry) (n : BTreeMap (String Global) Datum) → IsFromIterResult string_cmp xs n → map seen_entry xs ≡ map read_entry ms
+pub collected : (xs : List Entry) (ms : List tree.Entry) (n : BTreeMap (String Global) Datum) →
+    IsFromIterResult string_cmp xs n → map seen_entry xs ≡ map read_entry ms
     → IsSorted (tree_members ms) → members_view n.entries ≡ members_from (tree_members ms)
 collected xs ms n made same sorted =
     let up = subst IsSorted (ap bare (sym same) ∙ bare-keys xs) (sorted-bare ms sorted) in

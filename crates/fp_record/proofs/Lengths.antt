@@ -11,7 +11,8 @@ use Rattle.fp_edit.specs.Flags.{total_cost}
 use Rattle.fp_edit.specs.Parts.{Part, put, delete}
 use Rattle.fp_documents.specs.declared.flags.Flag.{Flag}
 use Rattle.fp_record.specs.Group.{Group}
-use Rattle.fp_record.specs.Encoding.{encoding_of_key, encoding_of_definition, encoding_of_part, encoding_of_change, encoding_of_batch, encoding_of_flag, encoding_of_image}
+use Rattle.fp_record.specs.Encoding.{encoding_of_key, encoding_of_definition, encoding_of_part, encoding_of_change}
+use Rattle.fp_record.specs.Encoding.{encoding_of_batch, encoding_of_flag, encoding_of_image}
 
 length-encoding_of_key : (key : List ℕ) → length (encoding_of_key key) ≡ 2 + length key
 unfolding encoding_of_key
@@ -23,12 +24,24 @@ length-encoding_of_definition text = length-append (to_be_bytes w32 (length text
 
 length-part : (part : Part) → length (encoding_of_part part) ≡ part_len part
 unfolding encoding_of_part
-length-part (put key text) = omega (arith, length-append (encoding_of_key key) (encoding_of_definition text), length-encoding_of_key key, length-encoding_of_definition text)
+length-part (put key text) = omega (
+  arith,
+  length-append (encoding_of_key key) (encoding_of_definition text),
+  length-encoding_of_key key,
+  length-encoding_of_definition text,
+)
 length-part (delete key) = omega (arith, length-encoding_of_key key)
 
 length-parts : (parts : List Part) → length (flat_map encoding_of_part parts) ≡ sum_by part_len parts
 length-parts [] = refl
-length-parts (part ∷ parts) = rw flat_map-cons (omega (arith, length-append (encoding_of_part part) (flat_map encoding_of_part parts), length-part part, length-parts parts, sum_by-cons part_len part parts))
+length-parts (part ∷ parts) = rw flat_map-cons
+    (omega (
+      arith,
+      length-append (encoding_of_part part) (flat_map encoding_of_part parts),
+      length-part part,
+      length-parts parts,
+      sum_by-cons part_len part parts,
+    ))
 
 pub length-one : (part : Part) → length (encoding_of_change (one part)) ≡ part_len part
 unfolding encoding_of_change
@@ -42,18 +55,40 @@ pub length-encoding_of_batch : (v : Group) → length (encoding_of_batch v) ≡ 
 unfolding encoding_of_batch
 length-encoding_of_batch v =
     let all = flat_map encoding_of_change v.changes in
-    omega (arith, length-append (to_be_bytes w64 v.first) (to_be_bytes w16 (length v.changes) ++ all), length-append (to_be_bytes w16 (length v.changes)) all, length-flat_map encoding_of_change v.changes)
+    omega (
+      arith,
+      length-append (to_be_bytes w64 v.first) (to_be_bytes w16 (length v.changes) ++ all),
+      length-append (to_be_bytes w16 (length v.changes)) all,
+      length-flat_map encoding_of_change v.changes,
+    )
 
 length-encoding_of_flag : (flag : List ℕ × Flag) → length (encoding_of_flag flag) ≡ 14 + length flag.0 + length flag.1.definition
 unfolding encoding_of_flag
 length-encoding_of_flag flag =
     let text = encoding_of_definition flag.1.definition in
-    omega (arith, length-append (encoding_of_key flag.0) (to_be_bytes w64 flag.1.changed ++ text), length-append (to_be_bytes w64 flag.1.changed) text, length-encoding_of_key flag.0, length-encoding_of_definition flag.1.definition)
+    omega (
+      arith,
+      length-append (encoding_of_key flag.0) (to_be_bytes w64 flag.1.changed ++ text),
+      length-append (to_be_bytes w64 flag.1.changed) text,
+      length-encoding_of_key flag.0,
+      length-encoding_of_definition flag.1.definition,
+    )
 
 pub length-flags : (flags : List (List ℕ × Flag)) → length (flat_map encoding_of_flag flags) ≡ total_cost flags
 length-flags [] = refl
-length-flags (flag ∷ flags) = rw flat_map-cons (omega (arith, length-append (encoding_of_flag flag) (flat_map encoding_of_flag flags), length-encoding_of_flag flag, length-flags flags))
+length-flags (flag ∷ flags) = rw flat_map-cons
+    (omega (
+      arith,
+      length-append (encoding_of_flag flag) (flat_map encoding_of_flag flags),
+      length-encoding_of_flag flag,
+      length-flags flags,
+    ))
 
 pub length-encoding_of_image : (flags : List (List ℕ × Flag)) → length (encoding_of_image flags) ≡ 4 + total_cost flags
 unfolding encoding_of_image
-length-encoding_of_image flags = omega (arith, length-append (to_be_bytes w32 (length flags)) (flat_map encoding_of_flag flags), length-flags flags)
+length-encoding_of_image flags =
+    omega (
+      arith,
+      length-append (to_be_bytes w32 (length flags)) (flat_map encoding_of_flag flags),
+      length-flags flags,
+    )

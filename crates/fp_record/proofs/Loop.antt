@@ -12,7 +12,8 @@ abbrev pub Fails : {A : Type 0} → RecordFault → Result A ℕ → Type 0
 Fails e read = Tells e (λ at. read ≡ Err at)
 
 -- the one behind those that were read
-pub ends : {A S : Type 0} (step : S → Result (A × S) ℕ) (e : RecordFault) (n count : ℕ) (s : S) (x : List A × S) → n < count → many_from step n s ≡ Ok x → Fails e (step x.1) → Fails e (many_from step count s)
+pub ends : {A S : Type 0} (step : S → Result (A × S) ℕ) (e : RecordFault) (n count : ℕ) (s : S) (x : List A × S) →
+    n < count → many_from step n s ≡ Ok x → Fails e (step x.1) → Fails e (many_from step count s)
 ends step fault.Memory n count s x lt so_far h = tt
 ends step (fault.BadRecord at) n count s x lt so_far h = many_stops step n count s x at lt so_far h
 

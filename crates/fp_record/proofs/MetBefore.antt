@@ -20,12 +20,14 @@ module _ (met before : List (List ℕ)) (same : AreMet met before) (bytes : List
   new_key_same : (at : ℕ) → new_key_at met bytes at ≡ new_key_at before bytes at
   unfolding new_key_at
   new_key_same at =
-      then_same (key_at bytes at) (λ key. cond (is_among key.0 met) (Err (at + 2)) (Ok key)) (λ key. cond (is_among key.0 before) (Err (at + 2)) (Ok key))
+      then_same (key_at bytes at) (λ key. cond (is_among key.0 met) (Err (at + 2)) (Ok key))
+      (λ key. cond (is_among key.0 before) (Err (at + 2)) (Ok key))
       (λ key. ap (λ (b : Bool). cond b (Err (at + 2)) (Ok key)) (same key.0))
 
   put_same : (at : ℕ) → put_at met bytes at ≡ put_at before bytes at
   unfolding put_at
-  put_same at = ap (λ (key : Result (List ℕ × ℕ) ℕ). key >>= λ key. definition_at bytes key.1 >>= λ text. Ok (put key.0 text.0, text.1)) (new_key_same at)
+  put_same at = ap (λ (key : Result (List ℕ × ℕ) ℕ). key >>= λ key. definition_at bytes key.1 >>= λ text. Ok
+      (put key.0 text.0, text.1)) (new_key_same at)
 
   delete_same : (at : ℕ) → delete_at met bytes at ≡ delete_at before bytes at
   unfolding delete_at
@@ -34,8 +36,11 @@ module _ (met before : List (List ℕ)) (same : AreMet met before) (bytes : List
   pub part_same : (at : ℕ) → part_at met bytes at ≡ part_at before bytes at
   unfolding part_at
   part_same at =
-      then_same (number_at w8 bytes at) (λ kind. cond (eqb kind.0 PUT_KIND) (put_at met bytes kind.1) (cond (eqb kind.0 DELETE_KIND) (delete_at met bytes kind.1) (Err at)))
-      (λ kind. cond (eqb kind.0 PUT_KIND) (put_at before bytes kind.1) (cond (eqb kind.0 DELETE_KIND) (delete_at before bytes kind.1) (Err at)))
+      then_same (number_at w8 bytes at)
+      (λ kind. cond (eqb kind.0 PUT_KIND) (put_at met bytes kind.1)
+      (cond (eqb kind.0 DELETE_KIND) (delete_at met bytes kind.1) (Err at)))
+      (λ kind. cond (eqb kind.0 PUT_KIND) (put_at before bytes kind.1)
+      (cond (eqb kind.0 DELETE_KIND) (delete_at before bytes kind.1) (Err at)))
       (λ kind. rw (put_same kind.1, delete_same kind.1) refl)
 
 or_turned : (a b : Bool) → (a || b) ≡ (b || a)
@@ -45,5 +50,7 @@ or_turned false true = refl
 or_turned false false = refl
 
 -- one more that was met stands behind those before
-pub met_more : (new met before : List (List ℕ)) (key : List ℕ) → AreMet new (key ∷ met) → AreMet met before → AreMet new (before ++ key ∷ [])
-met_more new met before key more same = λ k. more k ∙ ap (λ (b : Bool). bytes_eq k key || b) (same k) ∙ or_turned (bytes_eq k key) (is_among k before) ∙ sym (among_more k before key)
+pub met_more : (new met before : List (List ℕ)) (key : List ℕ) → AreMet new (key ∷ met) → AreMet met before →
+    AreMet new (before ++ key ∷ [])
+met_more new met before key more same = λ k. more k ∙ ap (λ (b : Bool). bytes_eq k key || b) (same k) ∙
+    or_turned (bytes_eq k key) (is_among k before) ∙ sym (among_more k before key)

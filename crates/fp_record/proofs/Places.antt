@@ -1,11 +1,15 @@
 -- What stands from an offset on, read forward and found again.
-use Rattle.std.proofs.Common.{◌≡◌, ℕ, ◌+◌, ◌-◌, ◌^◌, ◌<◌, ◌≤◌, Bool, true, false, cond, ltb, List, [], ◌∷◌, ◌++◌, length, get_or, take, drop, Result, Ok, Err, refl, sym, ap, subst, ◌∙◌, append_assoc, arith, inl, inr, ◌⊎◌}
+use Rattle.std.proofs.Common.{◌≡◌, ℕ, ◌+◌, ◌-◌, ◌^◌, ◌<◌, ◌≤◌, Bool, true, false, cond, ltb, List, [], ◌∷◌, ◌++◌}
+use Rattle.std.proofs.Common.{length, get_or, take, drop, Result, Ok, Err, refl, sym, ap, subst, ◌∙◌, append_assoc}
+use Rattle.std.proofs.Common.{arith, inl, inr, ◌⊎◌}
 use Rattle.std.specs.Prelude.{slice_range}
 use Rattle.std.specs.Int.{Width, w8, w16, w32, w64, byte_len, from_be_bytes, to_be_bytes}
 use Rattle.std.proofs.lemmas.Bool.{cases_lt, ltb-false, le-ltb}
-use Rattle.std.proofs.lemmas.List.{take_at, drop_at, drop-drop, length-append, length-drop, length-take, get_or-drop, get_or-take, get_or_past}
+use Rattle.std.proofs.lemmas.List.{take_at, drop_at, drop-drop, length-append, length-drop, length-take, get_or-drop}
+use Rattle.std.proofs.lemmas.List.{get_or-take, get_or_past}
 use Rattle.std.proofs.lemmas.List.Folds.{drop_split}
-use Rattle.std.proofs.lemmas.Nat.{be_bytes_2, be_bytes_4, be_bytes_8, from_be_bytes-to_be_bytes_2, from_be_bytes-to_be_bytes_4, from_be_bytes-to_be_bytes_8}
+use Rattle.std.proofs.lemmas.Nat.{be_bytes_2, be_bytes_4, be_bytes_8, from_be_bytes-to_be_bytes_2}
+use Rattle.std.proofs.lemmas.Nat.{from_be_bytes-to_be_bytes_4, from_be_bytes-to_be_bytes_8}
 use Rattle.fp_base.specs.Steps.{◌>>=◌}
 use Rattle.fp_record.specs.Fields.{number_at, bytes_at}
 pub use Rattle.std.proofs.lemmas.Bool.{and_parts as both_true}
@@ -68,7 +72,8 @@ From-range bytes at text rest h =
     rw (k, h.is) (take_at text rest (length text) refl)
 
 -- how far it is from a text to what is behind it
-pub From-to : (bytes : List ℕ) (at : ℕ) (text rest : List ℕ) (next : ℕ) → From bytes at (text ++ rest) → From bytes next rest → next ≡ at + length text
+pub From-to : (bytes : List ℕ) (at : ℕ) (text rest : List ℕ) (next : ℕ) → From bytes at (text ++ rest) →
+    From bytes next rest → next ≡ at + length text
 From-to bytes at text rest next h k =
     let from = h.within in
     let to = k.within in
@@ -84,13 +89,22 @@ pub record Takes (bytes : List ℕ) (at : ℕ) (text : List ℕ) (next : ℕ) : 
 pub Takes-nothing : (bytes : List ℕ) (at : ℕ) → at ≤ length bytes → Takes bytes at [] at
 Takes-nothing bytes at h = record { parts = refl; within = h }
 
-pub Takes-then : (bytes : List ℕ) (a : ℕ) (x : List ℕ) (b : ℕ) (y : List ℕ) (c : ℕ) → Takes bytes a x b → Takes bytes b y c → Takes bytes a (x ++ y) c
-Takes-then bytes a x b y c p q = record { parts = p.parts ∙ ap (λ (t : List ℕ). x ++ t) q.parts ∙ sym (append_assoc x y (drop c bytes)); within = q.within }
+pub Takes-then : (bytes : List ℕ) (a : ℕ) (x : List ℕ) (b : ℕ) (y : List ℕ) (c : ℕ) → Takes bytes a x b →
+    Takes bytes b y c → Takes bytes a (x ++ y) c
+Takes-then bytes a x b y c p q =
+    record {
+      parts = p.parts ∙ ap (λ (t : List ℕ). x ++ t) q.parts ∙ sym (append_assoc x y (drop c bytes));
+      within =
+          q.within;
+    }
 
-pub Takes-long : (bytes : List ℕ) (at : ℕ) (text : List ℕ) (next : ℕ) → at ≤ length bytes → Takes bytes at text next → next ≡ at + length text
+pub Takes-long : (bytes : List ℕ) (at : ℕ) (text : List ℕ) (next : ℕ) → at ≤ length bytes →
+    Takes bytes at text next → next ≡ at + length text
 Takes-long bytes at text next from h =
     let to = h.within in
-    let all : length bytes - at ≡ length text + (length bytes - next) = sym (length-drop at bytes) ∙ ap length h.parts ∙ length-append text (drop next bytes) ∙ ap (λ (n : ℕ). length text + n) (length-drop next bytes) in
+    let all : length bytes - at ≡ length text + (length bytes - next) = sym (length-drop at bytes) ∙
+    ap length h.parts ∙ length-append text (drop next bytes) ∙
+    ap (λ (n : ℕ). length text + n) (length-drop next bytes) in
     omega (arith, from, to, all)
 
 -- ---- that many bytes
@@ -99,11 +113,13 @@ pub bytes_take : (bytes : List ℕ) (len at : ℕ) (x : List ℕ × ℕ) → byt
 bytes_take bytes len at x e =
     let g = passed (ltb (length bytes) (at + len)) at (Ok (slice_range bytes at (at + len), at + len)) x e in
     let long : at + len ≤ length bytes = ltb-false _ _ g.0 in
-    let size : length (slice_range bytes at (at + len)) ≡ len = omega (arith, length-take (at + len - at) (drop at bytes), length-drop at bytes) in
+    let size : length (slice_range bytes at (at + len)) ≡ len =
+    omega (arith, length-take (at + len - at) (drop at bytes), length-drop at bytes) in
     subst (λ (y : List ℕ × ℕ). Takes bytes at y.0 y.1 × (length y.0 ≡ len)) (ok_is (slice_range bytes at (at + len), at + len) x g.1)
     (record { parts = drop_split bytes at (at + len) (omega arith); within = long }, size)
 
-pub bytes_again : (bytes : List ℕ) (at : ℕ) (text rest : List ℕ) → From bytes at (text ++ rest) → bytes_at (length text) bytes at ≡ Ok (text, at + length text)
+pub bytes_again : (bytes : List ℕ) (at : ℕ) (text rest : List ℕ) → From bytes at (text ++ rest) →
+    bytes_at (length text) bytes at ≡ Ok (text, at + length text)
 bytes_again bytes at text rest h =
     let long : ltb (length bytes) (at + length text) ≡ false = le-ltb _ _ (From-long bytes at text rest h) in
     rw long (ap (λ (t : List ℕ). Ok (t, at + length text)) (From-range bytes at text rest h))
@@ -163,29 +179,40 @@ IsBytes-take n bytes h i =
       | inr le ↦ rw (get_or_past (take n bytes) i 0 (omega (arith, length-take n bytes))) (omega arith)
     ]
 
-pub number_takes : (w : Width) (limit : ℕ) (wide : IsWide w limit) (bytes : List ℕ) (at : ℕ) (x : ℕ × ℕ) → IsBytes bytes → number_at w bytes at ≡ Ok x → Takes bytes at (to_be_bytes w x.0) x.1 × (x.0 < limit)
+pub number_takes : (w : Width) (limit : ℕ) (wide : IsWide w limit) (bytes : List ℕ) (at : ℕ) (x : ℕ × ℕ) →
+    IsBytes bytes → number_at w bytes at ≡ Ok x → Takes bytes at (to_be_bytes w x.0) x.1 × (x.0 < limit)
 number_takes w limit wide bytes at x fits e =
     let n = from_be_bytes w (slice_range bytes at (at + byte_len w)) in
     let b = bytes_take bytes (byte_len w) at in
     let g = passed (ltb (length bytes) (at + byte_len w)) at (Ok (n, at + byte_len w)) x e in
     let p = b (slice_range bytes at (at + byte_len w), at + byte_len w) (rw g.0 refl) in
-    let field : IsBytes (slice_range bytes at (at + byte_len w)) = IsBytes-take (at + byte_len w - at) (drop at bytes) (IsBytes-drop at bytes fits) in
-    let same : slice_range bytes at (at + byte_len w) ≡ to_be_bytes w n = sym (wide.back (slice_range bytes at (at + byte_len w)) p.1 field) in
+    let field : IsBytes (slice_range bytes at (at + byte_len w)) =
+    IsBytes-take (at + byte_len w - at) (drop at bytes) (IsBytes-drop at bytes fits) in
+    let same : slice_range bytes at (at + byte_len w) ≡ to_be_bytes w n =
+    sym (wide.back (slice_range bytes at (at + byte_len w)) p.1 field) in
     let taken : Takes bytes at (to_be_bytes w n) (at + byte_len w) = subst (λ (t : List ℕ). Takes bytes at t (at + byte_len w)) same p.0 in
-    subst (λ (y : ℕ × ℕ). Takes bytes at (to_be_bytes w y.0) y.1 × (y.0 < limit)) (ok_is (n, at + byte_len w) x g.1) (taken, wide.below (slice_range bytes at (at + byte_len w)) field)
+    subst (λ (y : ℕ × ℕ). Takes bytes at (to_be_bytes w y.0) y.1 × (y.0 < limit)) (ok_is (n, at + byte_len w) x g.1)
+    (taken, wide.below (slice_range bytes at (at + byte_len w)) field)
 
 -- where what is behind a number begins
-pub number_ends : (w : Width) (bytes : List ℕ) (at : ℕ) (x : ℕ × ℕ) → number_at w bytes at ≡ Ok x → (x.1 ≡ at + byte_len w) × (x.1 ≤ length bytes)
+pub number_ends : (w : Width) (bytes : List ℕ) (at : ℕ) (x : ℕ × ℕ) → number_at w bytes at ≡ Ok x →
+    (x.1 ≡ at + byte_len w) × (x.1 ≤ length bytes)
 number_ends w bytes at x e =
     let found : ℕ × ℕ = (from_be_bytes w (slice_range bytes at (at + byte_len w)), at + byte_len w) in
     let g = passed (ltb (length bytes) (at + byte_len w)) at (Ok found) x e in
     let within : at + byte_len w ≤ length bytes = ltb-false _ _ g.0 in
     subst (λ (y : ℕ × ℕ). (y.1 ≡ at + byte_len w) × (y.1 ≤ length bytes)) (ok_is found x g.1) (refl, within)
 
-pub number_again : (w : Width) (limit : ℕ) (wide : IsWide w limit) (bytes : List ℕ) (at n : ℕ) (rest : List ℕ) → n < limit → From bytes at (to_be_bytes w n ++ rest) → (next : ℕ) × (number_at w bytes at ≡ Ok (n, next)) × From bytes next rest
+pub number_again : (w : Width) (limit : ℕ) (wide : IsWide w limit) (bytes : List ℕ) (at n : ℕ) (rest : List ℕ) →
+    n < limit → From bytes at (to_be_bytes w n ++ rest) → (next : ℕ) × (number_at w bytes at ≡ Ok (n, next)) ×
+    From bytes next rest
 number_again w limit wide bytes at n rest lt h =
     let len = wide.len n in
-    let long : ltb (length bytes) (at + byte_len w) ≡ false = le-ltb _ _ (subst (λ (k : ℕ). at + k ≤ length bytes) len (From-long bytes at (to_be_bytes w n) rest h)) in
-    let same : slice_range bytes at (at + byte_len w) ≡ to_be_bytes w n = subst (λ (k : ℕ). slice_range bytes at (at + k) ≡ to_be_bytes w n) len (From-range bytes at (to_be_bytes w n) rest h) in
-    let behind : From bytes (at + byte_len w) rest = subst (λ (k : ℕ). From bytes (at + k) rest) len (From-behind bytes at (to_be_bytes w n) rest h) in
+    let long : ltb (length bytes) (at + byte_len w) ≡ false =
+    le-ltb _ _ (subst (λ (k : ℕ). at + k ≤ length bytes) len (From-long bytes at (to_be_bytes w n) rest h)) in
+    let same : slice_range bytes at (at + byte_len w) ≡ to_be_bytes w n =
+    subst (λ (k : ℕ). slice_range bytes at (at + k) ≡ to_be_bytes w n) len
+    (From-range bytes at (to_be_bytes w n) rest h) in
+    let behind : From bytes (at + byte_len w) rest =
+    subst (λ (k : ℕ). From bytes (at + k) rest) len (From-behind bytes at (to_be_bytes w n) rest h) in
     (at + byte_len w, rw (long, same, wide.again n lt) (refl {a = Ok (n, at + byte_len w)}), behind)

@@ -8,16 +8,20 @@ use Rattle.serde_json.specs.Written.{compact_text}
 use Rattle.fp_base.specs.Json.{json_of}
 use Rattle.fp_base.specs.Tests.{first_failed}
 use Rattle.fp_base.specs.Whole.{is_whole}
-use Rattle.fp_definition.specs.Valid.{Fault, member_tests, too_deep, whole_numbers_only, too_large, first_fault, is_text_of, is_text_of_some, is_definition_text}
+use Rattle.fp_definition.specs.Valid.{Fault, member_tests, too_deep, whole_numbers_only, too_large, first_fault}
+use Rattle.fp_definition.specs.Valid.{is_text_of, is_text_of_some, is_definition_text}
 use Rattle.fp_record.proofs.Places.{both_true}
 use Rattle.fp_definition.specs.declared.definition.TheConstants.{DEEPEST_DEFINITION, LONGEST_DEFINITION}
 
 -- where no test failed, the first was met
-pub first_met : {F : Type 0} (t : Bool × F) (ts : List (Bool × F)) → is_none (first_failed (t ∷ ts)) ≡ true → (t.0 ≡ true) × (is_none (first_failed ts) ≡ true)
-first_met {F = F} t ts e = elim t.0 as (λ (b : Bool). is_none (cond b (first_failed ts) (Some t.1)) ≡ true → (b ≡ true) × (is_none (first_failed ts) ≡ true)) [
-  | true ↦ λ h. (refl, h)
-  | false ↦ λ h. absurd cc
-] e
+pub first_met : {F : Type 0} (t : Bool × F) (ts : List (Bool × F)) → is_none (first_failed (t ∷ ts)) ≡ true →
+    (t.0 ≡ true) × (is_none (first_failed ts) ≡ true)
+first_met {F = F} t ts e = elim t.0 as
+    (λ (b : Bool). is_none (cond b (first_failed ts) (Some t.1)) ≡ true → (b ≡ true) ×
+    (is_none (first_failed ts) ≡ true)) [
+      | true ↦ λ h. (refl, h)
+      | false ↦ λ h. absurd cc
+    ] e
 
 text_short : (text : List ℕ) (d : Data) → is_text_of text d ≡ true → length text ≤ LONGEST_DEFINITION
 unfolding is_text_of

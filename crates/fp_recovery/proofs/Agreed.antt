@@ -19,10 +19,12 @@ agrees_range b c at n fits h =
       same = λ k low high.
           let there : at + (k - at) ≡ k = omega (arith, low) in
           let lt : k - at < length (slice_range b at (at + n)) = omega (arith, low, high, len) in
-          ap (λ (j : ℕ). slice_index c j) (sym there) ∙ h.same (k - at) lt ∙ sym (r.0.same (k - at) lt) ∙ ap (λ (j : ℕ). slice_index b j) there;
+          ap (λ (j : ℕ). slice_index c j) (sym there) ∙ h.same (k - at) lt ∙ sym (r.0.same (k - at) lt) ∙
+          ap (λ (j : ℕ). slice_index b j) there;
     }
 
-pub holds_agreed : (b c : List ℕ) (from stop at : ℕ) (text : List ℕ) → Agrees b c from stop → from ≤ at → at + length text ≤ stop → Holds b at text → Holds c at text
+pub holds_agreed : (b c : List ℕ) (from stop at : ℕ) (text : List ℕ) → Agrees b c from stop → from ≤ at →
+    at + length text ≤ stop → Holds b at text → Holds c at text
 holds_agreed b c from stop at text a low high h = let long = a.long in record {
   long = omega (arith, long, high);
   same = λ k lt. a.same (at + k) (omega (arith, low)) (omega (arith, lt, high)) ∙ h.same k lt;
@@ -31,7 +33,13 @@ holds_agreed b c from stop at text a low high h = let long = a.long in record {
 -- ---- the header
 pub header_agreed : (b c : List ℕ) (size : ℕ) → IsHeader b size → Agrees b c 0 64 → 65 + size ≤ length c → IsHeader c size
 header_agreed b c size h a long = record {
-  formatted = record { long = omega (arith, long, h.allowed.least); gate = a.same 0 (omega arith) (omega arith) ∙ h.formatted.gate; magic_text = holds_agreed b c 0 64 1 magic a (omega arith) (omega arith) h.formatted.magic_text };
+  formatted = record {
+    long = omega (arith, long, h.allowed.least);
+    gate = a.same 0 (omega arith) (omega arith) ∙
+        h.formatted.gate;
+    magic_text =
+        holds_agreed b c 0 64 1 magic a (omega arith) (omega arith) h.formatted.magic_text;
+  };
   version = a.same 9 (omega arith) (omega arith) ∙ h.version;
   size_text = holds_agreed b c 0 64 10 (to_be_bytes w64 size) a (omega arith) (omega arith) h.size_text;
   allowed = h.allowed;

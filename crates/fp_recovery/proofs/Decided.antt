@@ -1,5 +1,6 @@
 -- Each list of bytes stands for a set, or has a fault: read forward, each test is met or fails.
-use Rattle.std.proofs.Common.{◌≡◌, ◌⊎◌, ◌<◌, ◌≤◌, ◌+◌, ◌/◌, ◌^◌, ◌++◌, ℕ, zero, suc, min, true, false, List, [], ◌∷◌, length, get_or, Ok, Err, refl, sym, subst, ◌∙◌, inl, inr, arith}
+use Rattle.std.proofs.Common.{◌≡◌, ◌⊎◌, ◌<◌, ◌≤◌, ◌+◌, ◌/◌, ◌^◌, ◌++◌, ℕ, zero, suc, min, true, false, List, [], ◌∷◌}
+use Rattle.std.proofs.Common.{length, get_or, Ok, Err, refl, sym, subst, ◌∙◌, inl, inr, arith}
 use Rattle.std.specs.Prelude.{slice_index, slice_range}
 use Rattle.std.specs.Int.{Width, byte_len, w32, w64, from_be_bytes, to_be_bytes, is_power_of_two}
 use Rattle.std.specs.FinMap as fin
@@ -13,7 +14,8 @@ use Rattle.fp_edit.specs.Flags.{State}
 use Rattle.fp_documents.specs.declared.flags.Flag.{Flag}
 use Rattle.fp_gate.specs.declared.gate.TheConstants.{OPEN}
 use Rattle.fp_journal.specs.Holds.{Holds}
-use Rattle.fp_journal.specs.Reading.{Breaks, FoundChain, IsChain, IsClosed, IsNext, Reads, StopsAt, no_gate, no_length, too_long, no_body, length_at}
+use Rattle.fp_journal.specs.Reading.{Breaks, FoundChain, IsChain, IsClosed, IsNext, Reads, StopsAt, no_gate, no_length}
+use Rattle.fp_journal.specs.Reading.{too_long, no_body, length_at}
 use Rattle.fp_journal.specs.declared.slot.Slot.{Slot}
 use Rattle.fp_journal.proofs.Holds.{byte_held, held_range, holds_append, holds_back, holds_byte}
 use Rattle.fp_journal.proofs.Links.{HasRead, read_all, read_more, read_none, reads_more}
@@ -45,29 +47,49 @@ record IsReading (most from stop : ℕ) (c : List ℕ) (before : Replayed) (at :
   reads : Reads TakesBody before bodies now
 
 module _ (most from stop : ℕ) (c : List ℕ) (small : most < 2 ^ 32) (before : Replayed) where
-  reading_more : (at next : ℕ) (now then : Replayed) (b : List ℕ) → IsReading most from stop c before at now → IsNext most at stop b next c → TakesBody now b then → IsReading most from stop c before next then
+  reading_more : (at next : ℕ) (now then : Replayed) (b : List ℕ) → IsReading most from stop c before at now →
+      IsNext most at stop b next c → TakesBody now b then → IsReading most from stop c before next then
   reading_more at next now then b r n one = record {
     bodies = r.bodies ++ b ∷ [];
     read = read_more most from stop c small r.bodies at next b r.read n;
     reads = reads_more TakesBody before now then r.bodies b r.reads one;
   }
 
-  reading_all : (at : ℕ) (now : Replayed) → IsReading most from stop c before at now → IsClosed at stop c → FoundChain TakesBody most from stop c before now at
-  reading_all at now r shut = let all = read_all most from stop c small r.bodies at r.read shut in record { bodies = r.bodies; chain = all.0; only = all.1; place = r.read.place; reads = r.reads }
+  reading_all : (at : ℕ) (now : Replayed) → IsReading most from stop c before at now → IsClosed at stop c →
+      FoundChain TakesBody most from stop c before now at
+  reading_all at now r shut = let all = read_all most from stop c small r.bodies at r.read shut in
+      record { bodies = r.bodies; chain = all.0; only = all.1; place = r.read.place; reads = r.reads }
 
-  stops : (at : ℕ) (now : Replayed) (k : ℕ) → IsReading most from stop c before at now → Breaks most stop c at k ⊎ ((body : List ℕ) × (next : ℕ) × (offset : ℕ) × IsNext most at stop body next c × RefusesBatch now body offset × (k ≡ at + 5 + offset)) → StopsAt TakesBody RefusesBatch most from stop c before k
-  stops at now k r fault = record { bodies = r.bodies; gate = at; last = now; holds = r.read.holds; short = r.read.short; place = r.read.place; within = r.read.within; reads = r.reads; fault = fault }
+  stops : (at : ℕ) (now : Replayed) (k : ℕ) → IsReading most from stop c before at now →
+      Breaks most stop c at k ⊎ ((body : List ℕ) × (next : ℕ) × (offset : ℕ) × IsNext most at stop body next c ×
+      RefusesBatch now body offset × (k ≡ at + 5 + offset)) → StopsAt TakesBody RefusesBatch most from stop c before k
+  stops at now k r fault = record {
+    bodies = r.bodies;
+    gate = at;
+    last = now;
+    holds = r.read.holds;
+    short = r.read.short;
+    place =
+        r.read.place;
+    within = r.read.within;
+    reads = r.reads;
+    fault = fault;
+  }
 
-  reading_breaks : (at : ℕ) (now : Replayed) (k : ℕ) → IsReading most from stop c before at now → Breaks most stop c at k → StopsAt TakesBody RefusesBatch most from stop c before k
+  reading_breaks : (at : ℕ) (now : Replayed) (k : ℕ) → IsReading most from stop c before at now →
+      Breaks most stop c at k → StopsAt TakesBody RefusesBatch most from stop c before k
   reading_breaks at now k r broken = stops at now k r (inl broken)
 
-  reading_refused : (at next : ℕ) (now : Replayed) (b : List ℕ) (offset : ℕ) → IsReading most from stop c before at now → IsNext most at stop b next c → RefusesBatch now b offset → StopsAt TakesBody RefusesBatch most from stop c before (at + 5 + offset)
+  reading_refused : (at next : ℕ) (now : Replayed) (b : List ℕ) (offset : ℕ) →
+      IsReading most from stop c before at now → IsNext most at stop b next c → RefusesBatch now b offset →
+      StopsAt TakesBody RefusesBatch most from stop c before (at + 5 + offset)
   reading_refused at next now b offset r n bad = stops at now (at + 5 + offset) r (inr (b, next, offset, n, bad, refl))
 
 -- ---- bytes, texts and numbers at a place
 length_held : (c : List ℕ) (at n : ℕ) → n < 2 ^ 32 → Holds c at (OPEN ∷ to_be_bytes w32 n) → length_at c at ≡ n
 length_held c at n small p =
-    let one = p.same 1 (omega arith) in let two = p.same 2 (omega arith) in let three = p.same 3 (omega arith) in let four = p.same 4 (omega arith) in
+    let one = p.same 1 (omega arith) in let two = p.same 2 (omega arith) in let three = p.same 3 (omega arith) in
+    let four = p.same 4 (omega arith) in
     rw (one, two, three, four) (from_be_bytes-to_be_bytes_4 n small)
 
 module _ (c : List ℕ) (fits : IsBytes c) where
@@ -84,9 +106,11 @@ module _ (c : List ℕ) (fits : IsBytes c) where
       beyond (x ∷ xs) zero le = absurd (omega (arith, le))
       beyond (x ∷ xs) (suc i) le = beyond xs i (omega (arith, le))
 
-  number : {w : Width} {limit : ℕ} (wide : IsWide w limit) (at : ℕ) → at + byte_len w ≤ length c → (n : ℕ) × (n < limit) × Holds c at (to_be_bytes w n)
+  number : {w : Width} {limit : ℕ} (wide : IsWide w limit) (at : ℕ) → at + byte_len w ≤ length c → (n : ℕ) ×
+      (n < limit) × Holds c at (to_be_bytes w n)
   number {w} wide at le =
-      let r = held_range c at (byte_len w) le in let bytes = slice_range c at (at + byte_len w) in let part = range_bytes at (byte_len w) le in
+      let r = held_range c at (byte_len w) le in let bytes = slice_range c at (at + byte_len w) in
+      let part = range_bytes at (byte_len w) le in
       (from_be_bytes w bytes, wide.below bytes part, subst (λ (t : List ℕ). Holds c at t) (sym (wide.back bytes r.1 part)) r.0)
 
   holds_or : (at : ℕ) (text : List ℕ) → Holds c at text ⊎ (Holds c at text → ⊥)
@@ -128,7 +152,16 @@ module _ (c : List ℕ) (fits : IsBytes c) where
       ])
       | inr other ↦ inr (from + n, record { after = omega arith; before = omega arith; other = other; zeros = zeros })
     ]
-    | inr o ↦ inr (o.0, record { after = o.1.after; before = (let before = o.1.before in omega (arith, before)); other = o.1.other; zeros = o.1.zeros })
+    | inr o ↦ inr (
+      o.0,
+      record {
+        after = o.1.after;
+        before = (let before = o.1.before in
+            omega (arith, before));
+        other = o.1.other;
+        zeros = o.1.zeros;
+      },
+    )
   ]
 
   size_or : (n : ℕ) → IsSlotSize n ⊎ (IsSlotSize n → ⊥)
@@ -169,12 +202,14 @@ module _ (c : List ℕ) (fits : IsBytes c) where
       ]
 
   -- ---- the slot that rules
-  active : (size : ℕ) (x : Side) → Rules (slot_of size x).start (slot_of size (other_side x)).start c → (side : Side) × IsActive c size (slot_of size side) (slot_of size (other_side side))
+  active : (size : ℕ) (x : Side) → Rules (slot_of size x).start (slot_of size (other_side x)).start c →
+      (side : Side) × IsActive c size (slot_of size side) (slot_of size (other_side side))
   active size x rules = (x, record { side = x; slot_is = refl; other_is = refl; rules = rules })
 
   slots_or : (size : ℕ) → IsHeader c size → OrDamage ((side : Side) × IsActive c size (slot_of size side) (slot_of size (other_side side)))
   slots_or size h =
-      let long = h.long in let second_there : 64 + size < length c = omega (arith, long) in let first_there : 64 < length c = omega (arith, long) in
+      let long = h.long in let second_there : 64 + size < length c = omega (arith, long) in
+      let first_there : 64 < length c = omega (arith, long) in
       elim (cases_eq (slice_index c 64) OPEN) [
         | inr off ↦ elim (cases_eq (slice_index c (64 + size)) OPEN) [
           | inr shut ↦ inr (64, in_front (in_slots size h (none_open off shut refl)))
@@ -189,14 +224,38 @@ module _ (c : List ℕ) (fits : IsBytes c) where
         ]
       ]
     where
-      both : slice_index c 64 ≡ OPEN → slice_index c (64 + size) ≡ OPEN → 64 + size + 9 ≤ length c → OrDamage ((side : Side) × IsActive c size (slot_of size side) (slot_of size (other_side side)))
+      both : slice_index c 64 ≡ OPEN → slice_index c (64 + size) ≡ OPEN → 64 + size + 9 ≤ length c →
+          OrDamage ((side : Side) × IsActive c size (slot_of size side) (slot_of size (other_side side)))
       both on open_too whole =
-          let long = h.long in let m = number wide64 65 (omega (arith, whole)) in let n = number wide64 (64 + size + 1) (omega (arith, whole)) in
+          let long = h.long in let m = number wide64 65 (omega (arith, whole)) in
+          let n = number wide64 (64 + size + 1) (omega (arith, whole)) in
           elim (cases_lt m.0 n.0) [
-            | inl lt ↦ inl (active size second (record { there = omega (arith, long); opened = open_too; over = inr (n.0, m.0, record { small = n.1; text = n.2 }, record { small = m.1; text = m.2 }, lt) }))
+            | inl lt ↦ inl (active size second
+                (record {
+                  there = omega (arith, long);
+                  opened = open_too;
+                  over =
+                      inr (n.0, m.0, record { small = n.1; text = n.2 }, record { small = m.1; text = m.2 }, lt);
+                }))
             | inr le ↦ elim (cases_lt n.0 m.0) [
-              | inl lt ↦ inl (active size first (record { there = omega (arith, long); opened = on; over = inr (m.0, n.0, record { small = m.1; text = m.2 }, record { small = n.1; text = n.2 }, lt) }))
-              | inr ge ↦ (let same : n.0 ≡ m.0 = omega (arith, le, ge) in inr (64 + size + 1, in_front (in_slots size h (equal on open_too m.0 (record { small = m.1; text = m.2 }) (record { small = m.1; text = subst (λ (k : ℕ). Holds c (64 + size + 1) (to_be_bytes w64 k)) same n.2 }) refl))))
+              | inl lt ↦ inl (active size first
+                  (record {
+                    there = omega (arith, long);
+                    opened = on;
+                    over =
+                        inr (m.0, n.0, record { small = m.1; text = m.2 }, record { small = n.1; text = n.2 }, lt);
+                  }))
+              | inr ge ↦ (let same : n.0 ≡ m.0 = omega (arith, le, ge) in
+                  inr (
+                    64 + size + 1,
+                    in_front (in_slots size h
+                        (equal on open_too m.0 (record { small = m.1; text = m.2 })
+                        (record {
+                          small = m.1;
+                          text = subst (λ (k : ℕ). Holds c (64 + size + 1) (to_be_bytes w64 k)) same
+                              n.2;
+                        }) refl)),
+                  ))
             ]
           ]
 
@@ -206,7 +265,9 @@ module _ (c : List ℕ) (fits : IsBytes c) where
     | inl short ↦ inr (λ b h. let long = h.text.long in omega (arith, long, short))
     | inr long ↦ (let n = number wide64 (at + 10) (omega (arith, long)) in elim (cases_lt n.0 (2 ^ 63)) [
       | inl small ↦ inl (n.0, record { text = n.2; small = small })
-      | inr large ↦ inr (λ b h. let small = h.small in let same = number64_one c (at + 10) b n.0 h.text (omega (arith, small)) n.2 n.1 in omega (arith, same, small, large))
+      | inr large ↦ inr (λ b h. let small = h.small in
+          let same = number64_one c (at + 10) b n.0 h.text (omega (arith, small)) n.2 n.1 in
+          omega (arith, same, small, large))
     ])
   ]
 
@@ -214,7 +275,9 @@ module _ (c : List ℕ) (fits : IsBytes c) where
   length_or at size le = elim (cases_lt (length c) (at + 22)) [
     | inl short ↦ inr (λ b h. let long = h.text.long in omega (arith, long, short))
     | inr long ↦ (let n = number wide32 (at + 18) (omega (arith, long)) in elim (cases_lt (size / 2) n.0) [
-      | inl large ↦ inr (λ b h. let small = h.small in let same = number32_one c (at + 18) b n.0 h.text (omega (arith, small, le)) n.2 n.1 in omega (arith, same, small, large))
+      | inl large ↦ inr (λ b h. let small = h.small in
+          let same = number32_one c (at + 18) b n.0 h.text (omega (arith, small, le)) n.2 n.1 in
+          omega (arith, same, small, large))
       | inr small ↦ inl (n.0, record { text = n.2; small = small })
     ])
   ]
@@ -262,14 +325,22 @@ module _ (c : List ℕ) (fits : IsBytes c) where
               | inr none ↦ inr (damaged (at + 18) (faults.no_length v.0 b.0 v.1 b.1 none refl))
               | inl len ↦ elim (cases_lt (length c) (at + 22 + len.0)) [
                 | inl short ↦ inr (damaged (at + 22) (no_image v.0 b.0 len.0 v.1 b.1 len.1 short refl))
-                | inr long ↦ (let g = number wide64 (at + 1) (omega (arith, there)) in let r = held_range c (at + 22) len.0 long in inl (record {
-                  version = v.0;
-                  generation = g.0;
-                  base = b.0;
-                  image = slice_range c (at + 22) (at + 22 + len.0);
-                  head = record { generation_is = record { small = g.1; text = g.2 }; version_is = v.1; base_is = b.1; length_is = subst (λ (n : ℕ). HasLength c at size n) (sym r.1) len.1; image_text = r.0 };
-                  bytes = range_bytes (at + 22) len.0 long;
-                }))
+                | inr long ↦ (let g = number wide64 (at + 1) (omega (arith, there)) in
+                    let r = held_range c (at + 22) len.0 long in inl (record {
+                      version = v.0;
+                      generation = g.0;
+                      base = b.0;
+                      image = slice_range c (at + 22) (at + 22 + len.0);
+                      head = record {
+                        generation_is = record { small = g.1; text = g.2 };
+                        version_is = v.1;
+                        base_is =
+                            b.1;
+                        length_is = subst (λ (n : ℕ). HasLength c at size n) (sym r.1) len.1;
+                        image_text = r.0;
+                      };
+                      bytes = range_bytes (at + 22) len.0 long;
+                    }))
               ]
             ]
           ]
@@ -277,16 +348,43 @@ module _ (c : List ℕ) (fits : IsBytes c) where
       ]
 
   -- ---- the image
-  image_or : (size : ℕ) (slot other : Slot) → IsHeader c size → IsActive c size slot other → Head slot.start size → OrDamage ((s : Replayed) × (at : ℕ) × FoundFront BeginsWith c nothing_read s slot at)
-  image_or size slot other h a d = elim (image_under d.base (size / 2) d.image) as (λ r. image_under d.base (size / 2) d.image ≡ r → OrDamage ((s : Replayed) × (at : ℕ) × FoundFront BeginsWith c nothing_read s slot at)) [
-    | Ok es ↦ λ e. (let read = image_is d.base (size / 2) d.image es d.bytes e in
-        let s : State = record { flags = fin.from_sorted es; revision = d.base; limit = size / 2 } in
-        let is : fin.entries s.flags ≡ es = fin.entries-from_sorted bytes_cmp es (sorted_image es read.lawful.ascending) in
-        let begun : IsImageOf d.base (size / 2) d.image s = image_stands d.base (size / 2) d.image s d.bytes (subst (λ (l : List (List ℕ × Flag)). image_under d.base (size / 2) d.image ≡ Ok l) (sym is) e) refl refl in
-        let read : Replayed = record { version = d.version; set = s } in
-        inl (read, slot.start + 22 + length d.image, record { size = size; other = other; version = d.version; generation = d.generation; base = d.base; image = d.image; header = h; active = a; head = d.head; begun = (refl, begun); place = refl }))
-    | Err k ↦ λ e. inr (slot.start + 22 + k, in_front (in_image size d.version d.generation d.base slot other d.image k h a d.head e refl))
-  ] refl
+  image_or : (size : ℕ) (slot other : Slot) → IsHeader c size → IsActive c size slot other → Head slot.start size →
+      OrDamage ((s : Replayed) × (at : ℕ) × FoundFront BeginsWith c nothing_read s slot at)
+  image_or size slot other h a d =
+      elim (image_under d.base (size / 2) d.image) as
+      (λ r. image_under d.base (size / 2) d.image ≡ r →
+      OrDamage ((s : Replayed) × (at : ℕ) × FoundFront BeginsWith c nothing_read s slot at)) [
+        | Ok es ↦ λ e. (let read = image_is d.base (size / 2) d.image es d.bytes e in
+            let s : State = record { flags = fin.from_sorted es; revision = d.base; limit = size / 2 } in
+            let is : fin.entries s.flags ≡ es = fin.entries-from_sorted bytes_cmp es (sorted_image es read.lawful.ascending) in
+            let begun : IsImageOf d.base (size / 2) d.image s =
+            image_stands d.base (size / 2) d.image s d.bytes
+            (subst (λ (l : List (List ℕ × Flag)). image_under d.base (size / 2) d.image ≡ Ok l) (sym is) e) refl refl
+            in
+            let read : Replayed = record { version = d.version; set = s } in
+            inl (
+              read,
+              slot.start + 22 + length d.image,
+              record {
+                size = size;
+                other = other;
+                version = d.version;
+                generation = d.generation;
+                base =
+                    d.base;
+                image = d.image;
+                header = h;
+                active = a;
+                head = d.head;
+                begun = (refl, begun);
+                place = refl;
+              },
+            ))
+        | Err k ↦ λ e. inr (
+          slot.start + 22 + k,
+          in_front (in_image size d.version d.generation d.base slot other d.image k h a d.head e refl),
+        )
+      ] refl
 
   -- ---- the batches
   module _ (most from stop : ℕ) (small : most < 2 ^ 32) (before : Replayed) where
@@ -303,13 +401,21 @@ module _ (c : List ℕ) (fits : IsBytes c) where
     next_or at now r = elim (cases_lt at (min stop (length c))) [
       | inr past ↦ inl (inr (at, reading_breaks most from stop c small before at now at r (no_gate past refl)))
       | inl lt ↦ elim (cases_eq (slice_index c at) OPEN) [
-        | inr shut ↦ inl (inl (now, at, reading_all most from stop c small before at now r (record { within = omega (arith, lt); long = omega (arith, lt); shut = shut })))
+        | inr shut ↦ inl (inl (
+          now,
+          at,
+          reading_all most from stop c small before at now r
+              (record { within = omega (arith, lt); long = omega (arith, lt); shut = shut }),
+        ))
         | inl on ↦ elim (cases_lt (min stop (length c)) (at + 5)) [
           | inl short ↦ inl (inr (at + 1, reading_breaks most from stop c small before at now (at + 1) r (no_length on lt short refl)))
           | inr long ↦ elim (cases_lt most (length_at c at)) [
             | inl wide ↦ inl (inr (at + 1, reading_breaks most from stop c small before at now (at + 1) r (too_long on long wide refl)))
             | inr few ↦ elim (cases_lt (min stop (length c)) (at + 5 + length_at c at)) [
-              | inl short ↦ inl (inr (at + 5, reading_breaks most from stop c small before at now (at + 5) r (no_body on long few short refl)))
+              | inl short ↦ inl (inr (
+                at + 5,
+                reading_breaks most from stop c small before at now (at + 5) r (no_body on long few short refl),
+              ))
               | inr whole ↦ body on (omega (arith, long)) few whole
             ]
           ]
@@ -317,22 +423,36 @@ module _ (c : List ℕ) (fits : IsBytes c) where
       ]
     ]
       where
-        body : slice_index c at ≡ OPEN → at + 5 ≤ length c → length_at c at ≤ most → at + 5 + length_at c at ≤ min stop (length c) → (Read ⊎ Stopped) ⊎ ((t : Replayed) × (next : ℕ) × (at < next) × Reading next t)
+        body : slice_index c at ≡ OPEN → at + 5 ≤ length c → length_at c at ≤ most →
+            at + 5 + length_at c at ≤ min stop (length c) →
+            (Read ⊎ Stopped) ⊎ ((t : Replayed) × (next : ℕ) × (at < next) × Reading next t)
         body on long few whole =
             let n = number wide32 (at + 1) (omega (arith, long)) in
-            let front : Holds c at (OPEN ∷ to_be_bytes w32 n.0) = holds_append c at (OPEN ∷ []) (to_be_bytes w32 n.0) (subst (λ (x : ℕ). Holds c at (x ∷ [])) on (holds_byte c at (omega (arith, long)))) n.2 in
+            let front : Holds c at (OPEN ∷ to_be_bytes w32 n.0) =
+            holds_append c at (OPEN ∷ []) (to_be_bytes w32 n.0)
+            (subst (λ (x : ℕ). Holds c at (x ∷ [])) on (holds_byte c at (omega (arith, long)))) n.2 in
             let len : length_at c at ≡ n.0 = length_held c at n.0 n.1 front in
             let within : at + 5 + n.0 ≤ length c = omega (arith, len, whole) in
             let held = held_range c (at + 5) n.0 within in let b = slice_range c (at + 5) (at + 5 + n.0) in
             let size : length b ≡ n.0 = held.1 in
             let link : IsNext most at stop b (at + 5 + length b) c = record {
-              holds = holds_append c at (OPEN ∷ to_be_bytes w32 (length b)) b (subst (λ (m : ℕ). Holds c at (OPEN ∷ to_be_bytes w32 m)) (sym size) front) held.0;
+              holds = holds_append c at (OPEN ∷ to_be_bytes w32 (length b)) b
+                  (subst (λ (m : ℕ). Holds c at (OPEN ∷ to_be_bytes w32 m)) (sym size) front) held.0;
               short = omega (arith, size, len, few);
               place = refl;
               within = omega (arith, size, len, whole);
             } in
-            elim (batch_onto now.version now.set b) as (λ x. batch_onto now.version now.set b ≡ x → (Read ⊎ Stopped) ⊎ ((t : Replayed) × (next : ℕ) × (at < next) × Reading next t)) [
-              | Ok t ↦ λ e. let then : Replayed = record { version = now.version; set = t } in inr (then, at + 5 + length b, omega arith, reading_more most from stop c small before at (at + 5 + length b) now then b r link (refl, batch_is now.version now.set t b (range_bytes (at + 5) n.0 within) e))
+            elim (batch_onto now.version now.set b) as
+            (λ x. batch_onto now.version now.set b ≡ x →
+            (Read ⊎ Stopped) ⊎ ((t : Replayed) × (next : ℕ) × (at < next) × Reading next t)) [
+              | Ok t ↦ λ e. let then : Replayed = record { version = now.version; set = t } in
+                  inr (
+                    then,
+                    at + 5 + length b,
+                    omega arith,
+                    reading_more most from stop c small before at (at + 5 + length b) now then b r link
+                        (refl, batch_is now.version now.set t b (range_bytes (at + 5) n.0 within) e),
+                  )
               | Err k ↦ λ e. inl (inr (at + 5 + k, reading_refused most from stop c small before at (at + 5 + length b) now b k r link e))
             ] refl
 
@@ -343,10 +463,17 @@ module _ (c : List ℕ) (fits : IsBytes c) where
       | inr more ↦ (let lt = more.2 in walk left more.1 more.0 (omega (arith, le, lt)) more.3)
     ]
 
-  batches_or : (s : Replayed) (slot : Slot) (at : ℕ) → FoundFront BeginsWith c nothing_read s slot at → OrDamage ((t : State) × StandsFor c t)
+  batches_or : (s : Replayed) (slot : Slot) (at : ℕ) → FoundFront BeginsWith c nothing_read s slot at →
+      OrDamage ((t : State) × StandsFor c t)
   batches_or s slot at f =
       let small = most_small c f.size slot f.other f.header f.active in let long = f.head.image_text.long in let place = f.place in
-      elim (walk slot.most at slot.stop small s (length c) at s (omega arith) (record { bodies = []; read = read_none slot.most at slot.stop c (omega (arith, long, place)); reads = refl })) [
+      elim (walk slot.most at slot.stop small s (length c) at s (omega arith)
+      (record {
+        bodies = [];
+        read = read_none slot.most at slot.stop c (omega (arith, long, place));
+        reads =
+            refl;
+      })) [
         | inr d ↦ inr (d.0, in_chain slot at s f d.1)
         | inl r ↦ inl (
           r.0.set,

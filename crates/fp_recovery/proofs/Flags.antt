@@ -1,5 +1,6 @@
 -- Flags of an image, brought back into a set one after another.
-use Rattle.std.proofs.Common.{◌≡◌, ◌<◌, ◌≤◌, ◌+◌, ℕ, suc, List, [], ◌∷◌, ◌++◌, length, drop, true, Ok, Err, add-one, refl, sym, ap, subst, ◌∙◌, arith}
+use Rattle.std.proofs.Common.{◌≡◌, ◌<◌, ◌≤◌, ◌+◌, ℕ, suc, List, [], ◌∷◌, ◌++◌, length, drop, true, Ok, Err, add-one}
+use Rattle.std.proofs.Common.{refl, sym, ap, subst, ◌∙◌, arith}
 use Rattle.std.specs.Int.{w32, to_be_bytes}
 use Rattle.std.specs.List.{flat_map}
 use Rattle.std.specs.FinMap as fin
@@ -46,7 +47,9 @@ pub record HasMore (base limit : ℕ) (bytes : List ℕ) (at n : ℕ) (m : Flags
   pub read : AreRead base bytes at n (fin.insert m key flag) to
 
 module _ (base limit : ℕ) (bytes : List ℕ) (count at : ℕ) (counted : flag_count bytes ≡ Ok (count, at)) where
-  pub flags_more : (n : ℕ) (m : Flags) (from : Place) (key : List ℕ) (flag : Flag) (to : Place) → IsBytes bytes → length bytes ≤ limit → n < count → AreRead base bytes at n m from → flag_at base bytes from ≡ Ok ((key, flag), to)
+  pub flags_more : (n : ℕ) (m : Flags) (from : Place) (key : List ℕ) (flag : Flag) (to : Place) → IsBytes bytes →
+      length bytes ≤ limit → n < count → AreRead base bytes at n m from →
+      flag_at base bytes from ≡ Ok ((key, flag), to)
       → HasMore base limit bytes at (n + 1) m key flag to
   flags_more n m from key flag to fits short lt so_far one =
       let start : Place = ([], at) in
@@ -74,11 +77,16 @@ module _ (base limit : ℕ) (bytes : List ℕ) (count at : ℕ) (counted : flag_
       let old = All-right (λ (f : List ℕ × Flag). f.1.changed ≤ base) (fin.entries m) ((key, flag) ∷ []) are.changed in
       record {
         changed = (omega (arith, some), old.0);
-        room = has_room (fin.insert m key flag) limit (omega (arith, number, number_now, lt, most)) (omega (arith, len, parts, cost, cost_now, short));
-        read = subst (λ (k : ℕ). many_from (flag_at base bytes) k start ≡ Ok (fin.entries (fin.insert m key flag), to)) (sym (add-one n)) (subst (λ (es : List (List ℕ × Flag)). many_from (flag_at base bytes) (suc n) start ≡ Ok (es, to)) (sym inserted) read);
+        room = has_room (fin.insert m key flag) limit (omega (arith, number, number_now, lt, most))
+            (omega (arith, len, parts, cost, cost_now, short));
+        read = subst (λ (k : ℕ). many_from (flag_at base bytes) k start ≡ Ok
+            (fin.entries (fin.insert m key flag), to)) (sym (add-one n))
+            (subst (λ (es : List (List ℕ × Flag)). many_from (flag_at base bytes) (suc n) start ≡ Ok (es, to))
+            (sym inserted) read);
       }
 
-  pub flags_stop : (e : RecordFault) (n : ℕ) (m : Flags) (from : Place) → n < count → AreRead base bytes at n m from → Fails e (flag_at base bytes from) → Fails e (image_at base bytes)
+  pub flags_stop : (e : RecordFault) (n : ℕ) (m : Flags) (from : Place) → n < count →
+      AreRead base bytes at n m from → Fails e (flag_at base bytes from) → Fails e (image_at base bytes)
   unfolding image_at flags_at
   flags_stop fault.Memory n m from lt so_far none = tt
   flags_stop (fault.BadRecord k) n m from lt so_far none =

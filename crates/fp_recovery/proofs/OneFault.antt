@@ -19,7 +19,8 @@ use Rattle.fp_recovery.specs.Stands.{StandsFor}
 use Rattle.fp_recovery.proofs.Chains.{err_is}
 use Rattle.fp_recovery.proofs.One.{one_reading, stops_to}
 use Rattle.fp_recovery.proofs.Parts.{HasFront, front_one, moved_front, size_one}
-use Rattle.fp_recovery.proofs.Refused.{Broken, IsHeaderDamage, Rejected, damage_sound, front_found_sound, front_of, head_fine, head_told, slots_fine, unless_wanting}
+use Rattle.fp_recovery.proofs.Refused.{Broken, IsHeaderDamage, Rejected, damage_sound, front_found_sound, front_of}
+use Rattle.fp_recovery.proofs.Refused.{head_fine, head_told, slots_fine, unless_wanting}
 
 -- ---- the front
 first_one : (c : List ℕ) (from stop j k : ℕ) → IsFirstOther c from stop j → IsFirstOther c from stop k → j ≡ k
@@ -38,7 +39,8 @@ module _ (c : List ℕ) where
   header_one size j k (bad_size none is) (too_short allowed zeros short is') = absurd (none allowed)
   header_one size j k (not_zero allowed other) (bad_size none is') = absurd (none allowed)
   header_one size j k (not_zero allowed other) (not_zero allowed' other') = first_one c 18 64 j k other other'
-  header_one size j k (not_zero allowed other) (too_short allowed' zeros short is') = absurd (other.other (zeros j other.after other.before))
+  header_one size j k (not_zero allowed other) (too_short allowed' zeros short is') =
+      absurd (other.other (zeros j other.after other.before))
   header_one size j k (too_short allowed zeros short is) (bad_size none is') = absurd (none allowed)
   header_one size j k (too_short allowed zeros short is) (not_zero allowed' other) = absurd (other.other (zeros k other.after other.before))
   header_one size j k (too_short allowed zeros short is) (too_short allowed' zeros' short' is') = is ∙ sym is'
@@ -60,8 +62,10 @@ module _ (c : List ℕ) where
   head_one at size j k (no_generation short is) (no_generation short' is') = is ∙ sym is'
   head_one at size j k (no_generation short is) (no_version there none is') = absurd (omega (arith, short, there))
   head_one at size j k (no_generation short is) (no_base v v_is none is') = let long = v_is.long in absurd (omega (arith, short, long))
-  head_one at size j k (no_generation short is) (faults.no_length v b v_is b_is none is') = let long = v_is.long in absurd (omega (arith, short, long))
-  head_one at size j k (no_generation short is) (no_image v b len v_is b_is len_is short' is') = let long = v_is.long in absurd (omega (arith, short, long))
+  head_one at size j k (no_generation short is) (faults.no_length v b v_is b_is none is') = let long = v_is.long in
+      absurd (omega (arith, short, long))
+  head_one at size j k (no_generation short is) (no_image v b len v_is b_is len_is short' is') = let long =
+      v_is.long in absurd (omega (arith, short, long))
   head_one at size j k (no_version there none is) (no_generation short is') = absurd (omega (arith, short, there))
   head_one at size j k (no_version there none is) (no_version there' none' is') = is ∙ sym is'
   head_one at size j k (no_version there none is) (no_base v v_is none' is') = absurd (none v v_is)
@@ -72,12 +76,14 @@ module _ (c : List ℕ) where
   head_one at size j k (no_base v v_is none is) (no_base v' v_is' none' is') = is ∙ sym is'
   head_one at size j k (no_base v v_is none is) (faults.no_length v' b v_is' b_is none' is') = absurd (none b b_is)
   head_one at size j k (no_base v v_is none is) (no_image v' b len v_is' b_is len_is short is') = absurd (none b b_is)
-  head_one at size j k (faults.no_length v b v_is b_is none is) (no_generation short is') = let long = v_is.long in absurd (omega (arith, short, long))
+  head_one at size j k (faults.no_length v b v_is b_is none is) (no_generation short is') = let long = v_is.long in
+      absurd (omega (arith, short, long))
   head_one at size j k (faults.no_length v b v_is b_is none is) (no_version there none' is') = absurd (none' v v_is)
   head_one at size j k (faults.no_length v b v_is b_is none is) (no_base v' v_is' none' is') = absurd (none' b b_is)
   head_one at size j k (faults.no_length v b v_is b_is none is) (faults.no_length v' b' v_is' b_is' none' is') = is ∙ sym is'
   head_one at size j k (faults.no_length v b v_is b_is none is) (no_image v' b' len v_is' b_is' len_is short is') = absurd (none len len_is)
-  head_one at size j k (no_image v b len v_is b_is len_is short is) (no_generation short' is') = let long = v_is.long in absurd (omega (arith, short', long))
+  head_one at size j k (no_image v b len v_is b_is len_is short is) (no_generation short' is') = let long =
+      v_is.long in absurd (omega (arith, short', long))
   head_one at size j k (no_image v b len v_is b_is len_is short is) (no_version there none is') = absurd (none v v_is)
   head_one at size j k (no_image v b len v_is b_is len_is short is) (no_base v' v_is' none is') = absurd (none b b_is)
   head_one at size j k (no_image v b len v_is b_is len_is short is) (faults.no_length v' b' v_is' b_is' none is') = absurd (none len len_is)
@@ -88,30 +94,46 @@ module _ (c : List ℕ) where
       let same = number64_one c 10 p.2.0 q.2.0 p.2.2 p.2.1 q.2.2 q.2.1 in
       header_one q.2.0 j k (subst (λ (n : ℕ). BreaksHeader c n j) same p.2.3) q.2.3
 
-  image_rejected_one : {size version generation base offset size' version' generation' base' offset' : ℕ} {slot other slot' other' : Slot} {image image' : List ℕ} → HasFront c size version generation base slot other image → Rejected c size base image offset
-      → HasFront c size' version' generation' base' slot' other' image' → Rejected c size' base' image' offset' → slot.start + 22 + offset ≡ slot'.start + 22 + offset'
+  image_rejected_one : {size version generation base offset size' version' generation' base' offset' : ℕ}
+      {slot other slot' other' : Slot} {image image' : List ℕ} →
+      HasFront c size version generation base slot other image → Rejected c size base image offset
+      → HasFront c size' version' generation' base' slot' other' image' → Rejected c size' base' image' offset' →
+      slot.start + 22 + offset ≡ slot'.start + 22 + offset'
   image_rejected_one {offset = offset} {size' = size'} {base' = base'} {offset' = offset'} {slot' = slot'} {image' = image'} h r h' r' =
       let f = front_one c h h' in
       let same : Rejected c size' base' image' offset = moved_front (λ n version base image. Rejected c n base image offset) f r in
-      ap (λ (x : Slot). x.start + 22 + offset) f.slot_is ∙ ap (λ (n : ℕ). slot'.start + 22 + n) (err_is (image_under base' (size' / 2) image') offset offset' same r')
+      ap (λ (x : Slot). x.start + 22 + offset) f.slot_is ∙
+      ap (λ (n : ℕ). slot'.start + 22 + n) (err_is (image_under base' (size' / 2) image') offset offset' same r')
 
   front_fault_one : (j k : ℕ) → Broken c j → Broken c k → j ≡ k
   front_fault_one j k (in_header p) (in_header q) = damage_one j k p q
   front_fault_one j k (in_header p) (in_slots size h b) = absurd (damage_sound c size j h p)
   front_fault_one j k (in_header p) (in_head size slot other h a b) = absurd (damage_sound c size j h p)
-  front_fault_one j k (in_header p) (in_image size version generation base slot other image offset h a d r is) = absurd (damage_sound c size j h p)
+  front_fault_one j k (in_header p) (in_image size version generation base slot other image offset h a d r is) =
+      absurd (damage_sound c size j h p)
   front_fault_one j k (in_slots size h b) (in_header q) = absurd (damage_sound c size k h q)
-  front_fault_one j k (in_slots size h b) (in_slots size' h' b') = neither_one 64 (64 + size') j k (subst (λ (n : ℕ). RulesNeither 64 (64 + n) c j) (size_one c size size' h h') b) b'
+  front_fault_one j k (in_slots size h b) (in_slots size' h' b') =
+      neither_one 64 (64 + size') j k
+      (subst (λ (n : ℕ). RulesNeither 64 (64 + n) c j) (size_one c size size' h h') b) b'
   front_fault_one j k (in_slots size h b) (in_head size' slot' other' h' a' b') = absurd (slots_fine c j h' h a' b)
-  front_fault_one j k (in_slots size h b) (in_image size' version generation base slot' other' image offset h' a' d r is) = absurd (slots_fine c j h' h a' b)
+  front_fault_one j k (in_slots size h b)
+      (in_image size' version generation base slot' other' image offset h' a' d r is) =
+      absurd (slots_fine c j h' h a' b)
   front_fault_one j k (in_head size slot other h a b) (in_header q) = absurd (damage_sound c size k h q)
   front_fault_one j k (in_head size slot other h a b) (in_slots size' h' b') = absurd (slots_fine c k h h' a b')
-  front_fault_one j k (in_head size slot other h a b) (in_head size' slot' other' h' a' b') = head_one slot'.start size' j k (head_told c h h' a a' b) b'
-  front_fault_one j k (in_head size slot other h a b) (in_image size' version generation base slot' other' image offset h' a' d r is) = absurd (head_fine c j (front_of c h' a' d) h a b)
-  front_fault_one j k (in_image size version generation base slot other image offset h a d r is) (in_header q) = absurd (damage_sound c size k h q)
-  front_fault_one j k (in_image size version generation base slot other image offset h a d r is) (in_slots size' h' b') = absurd (slots_fine c k h h' a b')
-  front_fault_one j k (in_image size version generation base slot other image offset h a d r is) (in_head size' slot' other' h' a' b') = absurd (head_fine c k (front_of c h a d) h' a' b')
-  front_fault_one j k (in_image size version generation base slot other image offset h a d r is) (in_image size' version' generation' base' slot' other' image' offset' h' a' d' r' is') =
+  front_fault_one j k (in_head size slot other h a b) (in_head size' slot' other' h' a' b') =
+      head_one slot'.start size' j k (head_told c h h' a a' b) b'
+  front_fault_one j k (in_head size slot other h a b)
+      (in_image size' version generation base slot' other' image offset h' a' d r is) =
+      absurd (head_fine c j (front_of c h' a' d) h a b)
+  front_fault_one j k (in_image size version generation base slot other image offset h a d r is) (in_header q) =
+      absurd (damage_sound c size k h q)
+  front_fault_one j k (in_image size version generation base slot other image offset h a d r is)
+      (in_slots size' h' b') = absurd (slots_fine c k h h' a b')
+  front_fault_one j k (in_image size version generation base slot other image offset h a d r is)
+      (in_head size' slot' other' h' a' b') = absurd (head_fine c k (front_of c h a d) h' a' b')
+  front_fault_one j k (in_image size version generation base slot other image offset h a d r is)
+      (in_image size' version' generation' base' slot' other' image' offset' h' a' d' r' is') =
       is ∙ image_rejected_one (front_of c h a d) r (front_of c h' a' d') r' ∙ sym is'
 
   -- ---- the whole
@@ -123,7 +145,8 @@ module _ (c : List ℕ) where
   damaged_one j k (in_front p) (in_chain slot at middle f s) = absurd (front_found_sound c j f p)
   damaged_one j k (in_chain slot at middle f s) (in_front q) = absurd (front_found_sound c k f q)
   damaged_one j k (in_chain slot at middle f s) (in_chain slot' at' middle' g t) =
-      let same : ◌≡◌ {A = Result Replayed ℕ} (Err j) (Err k) = one_reading c (Err j) (Err k) (stops_to c slot at middle j f s) (stops_to c slot' at' middle' k g t) in cc
+      let same : ◌≡◌ {A = Result Replayed ℕ} (Err j) (Err k) =
+      one_reading c (Err j) (Err k) (stops_to c slot at middle j f s) (stops_to c slot' at' middle' k g t) in cc
 
   -- damage shows on a disk of this version
   damaged_front : (k : ℕ) → Damage k → IsFormatted c × (slice_index c 9 ≡ 1)

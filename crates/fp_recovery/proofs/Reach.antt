@@ -1,5 +1,6 @@
 -- How far reading a change goes: as many bytes as the change takes.
-use Rattle.std.proofs.Common.{◌≡◌, ◌+◌, ◌&&◌, ℕ, zero, suc, cond, eqb, leb, ltb, List, [], ◌∷◌, ◌++◌, length, Ok, Err, sym, ap, subst, ◌∙◌, arith, inl, inr}
+use Rattle.std.proofs.Common.{◌≡◌, ◌+◌, ◌&&◌, ℕ, zero, suc, cond, eqb, leb, ltb, List, [], ◌∷◌, ◌++◌, length, Ok, Err}
+use Rattle.std.proofs.Common.{sym, ap, subst, ◌∙◌, arith, inl, inr}
 use Rattle.std.specs.Prelude.{slice_range}
 use Rattle.std.specs.Int.{Width, w8, w16, w32, byte_len, from_be_bytes}
 use Rattle.std.specs.List.{sum_by}
@@ -41,9 +42,12 @@ module _ (bytes : List ℕ) where
   key_reach : (at : ℕ) (x : List ℕ × ℕ) → key_at bytes at ≡ Ok x → x.1 ≡ at + 2 + length x.0
   unfolding key_at
   key_reach at x e =
-      let a = bind_ok (number_at w16 bytes at) (λ len. cond (leb 1 len.0 && leb len.0 LONGEST_KEY) (bytes_at len.0 bytes len.1) (Err at) >>= λ key. cond (is_utf8 key.0) (Ok key) (Err len.1)) x e in
+      let a = bind_ok (number_at w16 bytes at)
+      (λ len. cond (leb 1 len.0 && leb len.0 LONGEST_KEY) (bytes_at len.0 bytes len.1) (Err at) >>= λ key. cond
+      (is_utf8 key.0) (Ok key) (Err len.1)) x e in
       let len = a.0 in
-      let b = bind_ok (cond (leb 1 len.0 && leb len.0 LONGEST_KEY) (bytes_at len.0 bytes len.1) (Err at)) (λ key. cond (is_utf8 key.0) (Ok key) (Err len.1)) x a.2 in
+      let b = bind_ok (cond (leb 1 len.0 && leb len.0 LONGEST_KEY) (bytes_at len.0 bytes len.1) (Err at))
+      (λ key. cond (is_utf8 key.0) (Ok key) (Err len.1)) x a.2 in
       let m = met (leb 1 len.0 && leb len.0 LONGEST_KEY) at (bytes_at len.0 bytes len.1) b.0 b.1 in
       let u = met (is_utf8 b.0.0) len.1 (Ok b.0) x b.2 in
       let first = number_reach w16 at len a.1 in let rest = bytes_reach len.0 len.1 b.0 m.1 in
@@ -52,9 +56,12 @@ module _ (bytes : List ℕ) where
   definition_reach : (at : ℕ) (x : List ℕ × ℕ) → definition_at bytes at ≡ Ok x → x.1 ≡ at + 4 + length x.0
   unfolding definition_at
   definition_reach at x e =
-      let a = bind_ok (number_at w32 bytes at) (λ len. cond (leb len.0 LONGEST_DEFINITION) (bytes_at len.0 bytes len.1) (Err at) >>= λ text. cond (is_definition_text text.0) (Ok text) (Err len.1)) x e in
+      let a = bind_ok (number_at w32 bytes at)
+      (λ len. cond (leb len.0 LONGEST_DEFINITION) (bytes_at len.0 bytes len.1) (Err at) >>= λ text. cond
+      (is_definition_text text.0) (Ok text) (Err len.1)) x e in
       let len = a.0 in
-      let b = bind_ok (cond (leb len.0 LONGEST_DEFINITION) (bytes_at len.0 bytes len.1) (Err at)) (λ text. cond (is_definition_text text.0) (Ok text) (Err len.1)) x a.2 in
+      let b = bind_ok (cond (leb len.0 LONGEST_DEFINITION) (bytes_at len.0 bytes len.1) (Err at))
+      (λ text. cond (is_definition_text text.0) (Ok text) (Err len.1)) x a.2 in
       let m = met (leb len.0 LONGEST_DEFINITION) at (bytes_at len.0 bytes len.1) b.0 b.1 in
       let u = met (is_definition_text b.0.0) len.1 (Ok b.0) x b.2 in
       let first = number_reach w32 at len a.1 in let rest = bytes_reach len.0 len.1 b.0 m.1 in
@@ -88,11 +95,15 @@ module _ (bytes : List ℕ) where
   part_reach : (before : List (List ℕ)) (at : ℕ) (x : Part × ℕ) → part_at before bytes at ≡ Ok x → x.1 ≡ at + part_len x.0
   unfolding part_at
   part_reach before at x e =
-      let a = bind_ok (number_at w8 bytes at) (λ kind. cond (eqb kind.0 PUT_KIND) (put_at before bytes kind.1) (cond (eqb kind.0 DELETE_KIND) (delete_at before bytes kind.1) (Err at))) x e in
+      let a = bind_ok (number_at w8 bytes at)
+      (λ kind. cond (eqb kind.0 PUT_KIND) (put_at before bytes kind.1)
+      (cond (eqb kind.0 DELETE_KIND) (delete_at before bytes kind.1) (Err at))) x e in
       let kind = a.0 in let first = number_reach w8 at kind a.1 in
-      elim (chosen (eqb kind.0 PUT_KIND) (put_at before bytes kind.1) (cond (eqb kind.0 DELETE_KIND) (delete_at before bytes kind.1) (Err at)) (Ok x) a.2) [
+      elim (chosen (eqb kind.0 PUT_KIND) (put_at before bytes kind.1)
+      (cond (eqb kind.0 DELETE_KIND) (delete_at before bytes kind.1) (Err at)) (Ok x) a.2) [
         | inl is ↦ (let rest = put_reach before kind.1 x is.1 in omega (arith, first, rest))
-        | inr is ↦ (let m = met (eqb kind.0 DELETE_KIND) at (delete_at before bytes kind.1) x is.1 in let rest = delete_reach before kind.1 x m.1 in omega (arith, first, rest))
+        | inr is ↦ (let m = met (eqb kind.0 DELETE_KIND) at (delete_at before bytes kind.1) x is.1 in
+            let rest = delete_reach before kind.1 x m.1 in omega (arith, first, rest))
       ]
 
   -- ---- parts one after the other
@@ -103,30 +114,36 @@ module _ (bytes : List ℕ) where
       let made : Part × (List (List ℕ) × ℕ) = (a.0.0, (from.0 ++ part_key a.0.0 ∷ [], a.0.1)) in
       subst (λ (y : Part × (List (List ℕ) × ℕ)). y.1.1 ≡ from.1 + part_len y.0) (ok_is made x a.2) (part_reach from.0 from.1 a.0 a.1)
 
-  parts_reach : (n : ℕ) (from : List (List ℕ) × ℕ) (x : List Part × (List (List ℕ) × ℕ)) → many_from (next_part bytes) n from ≡ Ok x → x.1.1 ≡ from.1 + sum_by part_len x.0
+  parts_reach : (n : ℕ) (from : List (List ℕ) × ℕ) (x : List Part × (List (List ℕ) × ℕ)) →
+      many_from (next_part bytes) n from ≡ Ok x → x.1.1 ≡ from.1 + sum_by part_len x.0
   unfolding many_from
   parts_reach zero from x e =
       let start : List Part × (List (List ℕ) × ℕ) = ([], from) in
       subst (λ (y : List Part × (List (List ℕ) × ℕ)). y.1.1 ≡ from.1 + sum_by part_len y.0) (ok_is start x e) (omega arith)
   parts_reach (suc n) from x e =
-      let a = bind_ok (next_part bytes from) (λ one. many_from (next_part bytes) n one.1 >>= λ others. Ok (one.0 ∷ others.0, others.1)) x e in
+      let a = bind_ok (next_part bytes from)
+      (λ one. many_from (next_part bytes) n one.1 >>= λ others. Ok (one.0 ∷ others.0, others.1)) x e in
       let one = a.0 in
       let b = bind_ok (many_from (next_part bytes) n one.1) (λ others. Ok (one.0 ∷ others.0, others.1)) x a.2 in
       let others = b.0 in
       let made : List Part × (List (List ℕ) × ℕ) = (one.0 ∷ others.0, others.1) in
       let first = next_reach from one a.1 in let rest = parts_reach n one.1 others b.1 in let sum = sum_by-cons part_len one.0 others.0 in
-      subst (λ (y : List Part × (List (List ℕ) × ℕ)). y.1.1 ≡ from.1 + sum_by part_len y.0) (ok_is made x b.2) (omega (arith, first, rest, sum))
+      subst (λ (y : List Part × (List (List ℕ) × ℕ)). y.1.1 ≡ from.1 + sum_by part_len y.0) (ok_is made x b.2)
+      (omega (arith, first, rest, sum))
 
   -- ---- a change
   set_reach : (kind at : ℕ) (x : Change × ℕ) → at ≡ kind + 1 → set_at bytes kind at ≡ Ok x → Reaches kind x.0 x.1
   unfolding set_at part_count
   set_reach kind at x behind e =
-      let a = bind_ok (part_count bytes at) (λ count. many_from (next_part bytes) count.0 ([], count.1) >>= λ parts. cond (leb parts.1.1 (kind + LONGEST_EDIT)) (Ok (set parts.0, parts.1.1)) (Err kind)) x e in
+      let a = bind_ok (part_count bytes at)
+      (λ count. many_from (next_part bytes) count.0 ([], count.1) >>= λ parts. cond
+      (leb parts.1.1 (kind + LONGEST_EDIT)) (Ok (set parts.0, parts.1.1)) (Err kind)) x e in
       let count = a.0 in
       let c = bind_ok (number_at w16 bytes at) (λ n. cond (is_count n.0) (Ok n) (Err at)) count a.1 in
       let k = met (is_count c.0.0) at (Ok c.0) count c.2 in
       let start : List (List ℕ) × ℕ = ([], count.1) in
-      let b = bind_ok (many_from (next_part bytes) count.0 start) (λ parts. cond (leb parts.1.1 (kind + LONGEST_EDIT)) (Ok (set parts.0, parts.1.1)) (Err kind)) x a.2 in
+      let b = bind_ok (many_from (next_part bytes) count.0 start)
+      (λ parts. cond (leb parts.1.1 (kind + LONGEST_EDIT)) (Ok (set parts.0, parts.1.1)) (Err kind)) x a.2 in
       let parts = b.0 in
       let made : Change × ℕ = (set parts.0, parts.1.1) in
       let m = met (leb parts.1.1 (kind + LONGEST_EDIT)) kind (Ok made) x b.2 in
@@ -137,7 +154,9 @@ module _ (bytes : List ℕ) where
   pub change_reach : (at : ℕ) (x : Change × ℕ) → change_at bytes at ≡ Ok x → Reaches at x.0 x.1
   unfolding change_at
   change_reach at x e =
-      let a = bind_ok (number_at w8 bytes at) (λ kind. cond (eqb kind.0 SET_KIND) (set_at bytes at kind.1) (part_at [] bytes at >>= λ part. Ok (one part.0, part.1))) x e in
+      let a = bind_ok (number_at w8 bytes at)
+      (λ kind. cond (eqb kind.0 SET_KIND) (set_at bytes at kind.1)
+      (part_at [] bytes at >>= λ part. Ok (one part.0, part.1))) x e in
       let kind = a.0 in
       elim (chosen (eqb kind.0 SET_KIND) (set_at bytes at kind.1) (part_at [] bytes at >>= λ part. Ok (one part.0, part.1)) (Ok x) a.2) [
         | inl is ↦ set_reach at kind.1 x (number_reach w8 at kind a.1) is.1

@@ -1,5 +1,6 @@
 -- Sets on their way back.
-use Rattle.std.proofs.Common.{T, Less, ◌≡◌, ◌≤◌, ◌&&◌, ℕ, true, leb, Bool, false, List, [], ◌∷◌, ◌++◌, length, map, refl, sym, ap, subst, ◌∙◌, arith}
+use Rattle.std.proofs.Common.{T, Less, ◌≡◌, ◌≤◌, ◌&&◌, ℕ, true, leb, Bool, false, List, [], ◌∷◌, ◌++◌, length, map}
+use Rattle.std.proofs.Common.{refl, sym, ap, subst, ◌∙◌, arith}
 use Rattle.std.specs.List.{AllByRecursion}
 use Rattle.std.specs.FinMap as fin
 use Rattle.std.proofs.lemmas.Bool.{le-leb}
@@ -49,7 +50,8 @@ both : (a b : Bool) → T a → T b → T (a && b)
 both true b p q = q
 both false b p q = p
 
-below : (x : List ℕ) (es : List (List ℕ × Flag)) → AllByRecursion (λ y. bytes_cmp x y ≡ Less) (map (λ f. f.0) es) → T (below_all bytes_cmp x es)
+below : (x : List ℕ) (es : List (List ℕ × Flag)) → AllByRecursion (λ y. bytes_cmp x y ≡ Less) (map (λ f. f.0) es) →
+    T (below_all bytes_cmp x es)
 below x [] h = tt
 below x (e ∷ es) h = both _ _ (subst (λ o. T (is_lt o)) (sym h.0) tt) (below x es h.1)
 
@@ -59,9 +61,12 @@ sorted_image [] h = tt
 sorted_image (e ∷ es) h = both _ _ (below e.0 es h.0) (sorted_image es h.1)
 
 pub image_within : (base limit : ℕ) (bytes : List ℕ) (s : State) → IsImageOf base limit bytes s → length bytes ≤ limit
-image_within base limit bytes s h = let len = ap length h.spelled ∙ length-encoding_of_image (fin.entries s.flags) in let le = h.here.within in omega (arith, len, le)
+image_within base limit bytes s h = let len = ap length h.spelled ∙ length-encoding_of_image (fin.entries s.flags) in
+    let le = h.here.within in omega (arith, len, le)
 
-pub image_of : (base limit : ℕ) (bytes : List ℕ) (image : List (List ℕ × Flag)) (s : State) → IsImage image → bytes ≡ encoding_of_image image → IsImageAt base limit image → fin.entries s.flags ≡ image → s.revision ≡ base → s.limit ≡ limit → IsImageOf base limit bytes s
+pub image_of : (base limit : ℕ) (bytes : List ℕ) (image : List (List ℕ × Flag)) (s : State) → IsImage image →
+    bytes ≡ encoding_of_image image → IsImageAt base limit image → fin.entries s.flags ≡ image → s.revision ≡ base →
+    s.limit ≡ limit → IsImageOf base limit bytes s
 image_of base limit bytes image s lawful spelled here is revision limit_is = record {
   lawful = subst (λ (es : List (List ℕ × Flag)). IsImage es) (sym is) lawful;
   spelled = spelled ∙ ap encoding_of_image (sym is);
@@ -79,12 +84,14 @@ leads_one s (c ∷ cs) t u a b =
 
 -- ---- bodies one after another
 -- a reader of them stays in its slot
-pub sets_read : (before after : Replayed) (bodies : List (List ℕ)) → Reads TakesBody before bodies after → Reads (TakesBatch before.version) before.set bodies after.set
+pub sets_read : (before after : Replayed) (bodies : List (List ℕ)) → Reads TakesBody before bodies after →
+    Reads (TakesBatch before.version) before.set bodies after.set
 sets_read before after [] r = ap (λ (x : Replayed). x.set) r
 sets_read before after (b ∷ bs) r =
     let middle = r.0 in
     (middle.set, r.1.1, subst (λ (v : ℕ). Reads (TakesBatch v) middle.set bs after.set) r.1.0 (sets_read middle after bs r.2))
 
-pub bodies_read : (version : ℕ) (s t : State) (bodies : List (List ℕ)) → Reads (TakesBatch version) s bodies t → Reads TakesBody (record { version = version; set = s }) bodies (record { version = version; set = t })
+pub bodies_read : (version : ℕ) (s t : State) (bodies : List (List ℕ)) → Reads (TakesBatch version) s bodies t →
+    Reads TakesBody (record { version = version; set = s }) bodies (record { version = version; set = t })
 bodies_read version s t [] r = ap (λ (x : State). let read : Replayed = record { version = version; set = x } in read) r
 bodies_read version s t (b ∷ bs) r = (record { version = version; set = r.0 }, (refl, r.1), bodies_read version r.0 t bs r.2)

@@ -1,5 +1,6 @@
 -- Texts of slots, whole and place by place.
-use Rattle.std.proofs.Common.{◌≡◌, ◌≤◌, ◌+◌, ◌-◌, ◌/◌, ℕ, List, [], ◌∷◌, ◌++◌, length, refl, sym, ap, subst, ◌∙◌, arith, length-append, append_assoc}
+use Rattle.std.proofs.Common.{◌≡◌, ◌≤◌, ◌+◌, ◌-◌, ◌/◌, ℕ, List, [], ◌∷◌, ◌++◌, length, refl, sym, ap, subst, ◌∙◌, arith}
+use Rattle.std.proofs.Common.{length-append, append_assoc}
 use Rattle.fp_edit.specs.Flags.{State}
 use Rattle.fp_gate.specs.declared.gate.TheConstants.{OPEN}
 use Rattle.fp_journal.specs.Holds.{Holds}
@@ -19,7 +20,8 @@ use Rattle.fp_slots.specs.Rules.{RulesWith}
 use Rattle.fp_recovery.specs.Stands.{IsImageOf, TakesBatch, Spells, StandsFor}
 
 -- ---- a batch more
-abbrev pub spells_on : (size : ℕ) (text body : List ℕ) (s t : State) (p : Spells size text s) → TakesBatch p.version s body t → length body ≤ size / 8 - 6 → Spells size (text ++ OPEN ∷ with_length body) t
+abbrev pub spells_on : (size : ℕ) (text body : List ℕ) (s t : State) (p : Spells size text s) →
+    TakesBatch p.version s body t → length body ≤ size / 8 - 6 → Spells size (text ++ OPEN ∷ with_length body) t
 spells_on size text body s t p takes fits = record {
   version = p.version;
   generation = p.generation;
@@ -27,7 +29,8 @@ spells_on size text body s t p takes fits = record {
   image = p.image;
   first = p.first;
   batches = p.batches ++ body ∷ [];
-  text_is = ap (λ (x : List ℕ). x ++ OPEN ∷ with_length body) p.text_is ∙ sym (text-more (head_text p.version p.generation p.base p.image) p.batches body);
+  text_is = ap (λ (x : List ℕ). x ++ OPEN ∷ with_length body) p.text_is ∙
+      sym (text-more (head_text p.version p.generation p.base p.image) p.batches body);
   known = p.known;
   numbered = p.numbered;
   small = p.small;
@@ -57,11 +60,15 @@ pub record IsReadFrom (c : List ℕ) (size : ℕ) (slot other : Slot) (s : State
   pub leads : Reads (TakesBatch version) first batches s
 
 -- what stands is read
-pub stands_read : (c : List ℕ) (s : State) (p : StandsFor c s) → IsReadFrom c p.size (slot_of p.size p.side) (slot_of p.size (other_side p.side)) s
+pub stands_read : (c : List ℕ) (s : State) (p : StandsFor c s) →
+    IsReadFrom c p.size (slot_of p.size p.side) (slot_of p.size (other_side p.side)) s
 stands_read c s p =
-    let q = p.spells in let slot : Slot = slot_of p.size p.side in let start : ℕ = slot.start in let stop : ℕ = slot.stop in let head = head_text q.version q.generation q.base q.image in
-    let e : Ends start stop (head ++ spell q.batches) c = subst (λ (t : List ℕ). Ends start stop t c) q.text_is p.tells.ends in let w = e.within in
-    let all : Holds c start (head ++ (spell q.batches ++ e.gate ∷ [])) = subst (λ (t : List ℕ). Holds c start t) (append_assoc head (spell q.batches) (e.gate ∷ [])) e.holds in
+    let q = p.spells in let slot : Slot = slot_of p.size p.side in let start : ℕ = slot.start in
+    let stop : ℕ = slot.stop in let head = head_text q.version q.generation q.base q.image in
+    let e : Ends start stop (head ++ spell q.batches) c =
+    subst (λ (t : List ℕ). Ends start stop t c) q.text_is p.tells.ends in let w = e.within in
+    let all : Holds c start (head ++ (spell q.batches ++ e.gate ∷ [])) =
+    subst (λ (t : List ℕ). Holds c start t) (append_assoc head (spell q.batches) (e.gate ∷ [])) e.holds in
     let len = head_length q.version q.generation q.base q.image in let both = length-append head (spell q.batches) in
     let place : start + length head ≡ start + 22 + length q.image = omega (arith, len) in record {
       version = q.version;
@@ -72,14 +79,16 @@ stands_read c s p =
       batches = q.batches;
       header = p.header;
       active = record { side = p.side; slot_is = refl; other_is = refl; rules = p.tells.rules };
-      head = head_places start q.version q.generation q.base q.image c p.size q.known q.numbered q.image_is.here.numbered q.small (holds_front c start head (spell q.batches ++ e.gate ∷ []) all);
+      head = head_places start q.version q.generation q.base q.image c p.size q.known q.numbered
+          q.image_is.here.numbered q.small (holds_front c start head (spell q.batches ++ e.gate ∷ []) all);
       image_is = q.image_is;
       chain = record {
         short = subst (λ (m : ℕ). AllShort m q.batches) (sym (most_of p.size p.side)) q.short;
         ends = record {
           gate = e.gate;
           shut = e.shut;
-          holds = subst (λ (k : ℕ). Holds c k (spell q.batches ++ e.gate ∷ [])) place (holds_back c start head (spell q.batches ++ e.gate ∷ []) all);
+          holds = subst (λ (k : ℕ). Holds c k (spell q.batches ++ e.gate ∷ [])) place
+              (holds_back c start head (spell q.batches ++ e.gate ∷ []) all);
           within = omega (arith, w, both, place);
         };
       };
@@ -92,7 +101,9 @@ module _ (c : List ℕ) (size : ℕ) (slot other : Slot) (s : State) (r : IsRead
   text_read = head_text r.version r.generation r.base r.image ++ spell r.batches
 
   pub text_long : length text_read ≡ 22 + length r.image + length (spell r.batches)
-  text_long = let len = head_length r.version r.generation r.base r.image in let both = length-append (head_text r.version r.generation r.base r.image) (spell r.batches) in omega (arith, len, both)
+  text_long = let len = head_length r.version r.generation r.base r.image in
+      let both = length-append (head_text r.version r.generation r.base r.image) (spell r.batches) in
+      omega (arith, len, both)
 
   pub read_ends : Ends slot.start slot.stop text_read c
   read_ends =
@@ -102,7 +113,9 @@ module _ (c : List ℕ) (size : ℕ) (slot other : Slot) (s : State) (r : IsRead
         gate = e.gate;
         shut = e.shut;
         holds = subst (λ (t : List ℕ). Holds c slot.start t) (sym (append_assoc head (spell r.batches) (e.gate ∷ [])))
-            (holds_append c slot.start head (spell r.batches ++ e.gate ∷ []) (head_whole slot.start r.version r.generation r.base r.image c size r.active.rules.opened r.head) (subst (λ (k : ℕ). Holds c k (spell r.batches ++ e.gate ∷ [])) place e.holds));
+            (holds_append c slot.start head (spell r.batches ++ e.gate ∷ [])
+            (head_whole slot.start r.version r.generation r.base r.image c size r.active.rules.opened r.head)
+            (subst (λ (k : ℕ). Holds c k (spell r.batches ++ e.gate ∷ [])) place e.holds));
         within = omega (arith, w, both, place);
       }
 
@@ -131,6 +144,7 @@ module _ (c : List ℕ) (size : ℕ) (slot other : Slot) (s : State) (r : IsRead
         side = r.active.side;
         text = text_read;
         header = r.header;
-        tells = subst (λ (x : Slot). RulesWith x (slot_of size (other_side r.active.side)) text_read c) r.active.slot_is (subst (λ (x : Slot). RulesWith slot x text_read c) r.active.other_is tells);
+        tells = subst (λ (x : Slot). RulesWith x (slot_of size (other_side r.active.side)) text_read c)
+            r.active.slot_is (subst (λ (x : Slot). RulesWith slot x text_read c) r.active.other_is tells);
         spells = read_spells;
       }

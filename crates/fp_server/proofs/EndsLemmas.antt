@@ -1,5 +1,6 @@
 -- How a service ends, of what its store is.
-use Rattle.std.proofs.Common.{◌≡◌, ◌≢◌, ◌⊎◌, ◌+◌, ℕ, List, [], ◌∷◌, ◌++◌, length, Ok, Err, inl, inr, ⊎_elim, refl, sym, ap, subst, ◌∙◌, append-nil}
+use Rattle.std.proofs.Common.{◌≡◌, ◌≢◌, ◌⊎◌, ◌+◌, ℕ, List, [], ◌∷◌, ◌++◌, length, Ok, Err, inl, inr, ⊎_elim, refl, sym}
+use Rattle.std.proofs.Common.{ap, subst, ◌∙◌, append-nil}
 use Rattle.std.specs.Prelude.{Option, Some, codes, decimal}
 use Rattle.std.specs.Net.Text.{socket_text}
 use Rattle.std.specs.declared.net.socket_addr.SocketAddr.{SocketAddr}
@@ -26,21 +27,26 @@ use Rattle.fp_plane.specs.Flushing.{Flushes}
 use Rattle.fp_recovery.specs.Stands.{StandsFor}
 use Rattle.fp_streams.specs.Said.{AppendsLine}
 use Rattle.fp_server.specs.Attends.{Serves}
-use Rattle.fp_server.specs.Ends.{EndsBadly, EndsWell, HasBroken, IsAttendingFault, IsBack, IsBrokenOff, IsBrokenStore, IsServedStore, IsServingFault, SaysAll, SaysWhere, broken_off, line, where_text}
+use Rattle.fp_server.specs.Ends.{EndsBadly, EndsWell, HasBroken, IsAttendingFault, IsBack, IsBrokenOff, IsBrokenStore}
+use Rattle.fp_server.specs.Ends.{IsServedStore, IsServingFault, SaysAll, SaysWhere, broken_off, line, where_text}
 
-pub says_where : (a b c d : Option (List ℕ)) (x y z : SocketAddr) → AppendsLine a b (codes "ofrep " ++ socket_text x) → AppendsLine b c (codes "edit " ++ socket_text y) → AppendsLine c d (codes "stream " ++ socket_text z) → Appends a d (where_text x y z)
+pub says_where : (a b c d : Option (List ℕ)) (x y z : SocketAddr) →
+    AppendsLine a b (codes "ofrep " ++ socket_text x) → AppendsLine b c (codes "edit " ++ socket_text y) →
+    AppendsLine c d (codes "stream " ++ socket_text z) → Appends a d (where_text x y z)
 says_where a b c d x y z p q r =
     let first = line (codes "ofrep " ++ socket_text x) in
     let second = line (codes "edit " ++ socket_text y) in
     let third = line (codes "stream " ++ socket_text z) in
     Appends-more a c d (first ++ second) third (Appends-more a b c first second p q) r
 
-pub says_all : (revision : ℕ) (before held after : Option (List ℕ)) → SaysWhere before held → AppendsLine held after (codes "stopped at revision " ++ decimal revision) → SaysAll revision before after
+pub says_all : (revision : ℕ) (before held after : Option (List ℕ)) → SaysWhere before held →
+    AppendsLine held after (codes "stopped at revision " ++ decimal revision) → SaysAll revision before after
 says_all revision before held after p q = record {
   ofrep = p.ofrep;
   edit = p.edit;
   stream = p.stream;
-  text = Appends-more before held after (where_text p.ofrep p.edit p.stream) (line (codes "stopped at revision " ++ decimal revision)) p.text q;
+  text = Appends-more before held after (where_text p.ofrep p.edit p.stream)
+      (line (codes "stopped at revision " ++ decimal revision)) p.text q;
 }
 
 -- with nothing on its way, what a crash leaves is what is kept
@@ -55,9 +61,12 @@ either s c (inr begun) = inr begun.2
 
 module _ {F D : Type 0} (files : FileGhosts F D) (disk : DiskGhosts D) (old new : F) (path : List ℕ) (before after : D) (t s : StoreState D)
     (found : files.at old path ≡ Some before) (stands : disk.honest before → StandsFor (disk.bytes before) t.store.start)
-    (opening : AtAnyMoment disk before t.disk (IsOutcome (disk.unsynced before))) (honest : SameHonesty disk before t.disk) (well : disk.faults t.disk ≡ disk.faults before)
+    (opening : AtAnyMoment disk before t.disk (IsOutcome (disk.unsynced before)))
+    (honest : SameHonesty disk before t.disk) (well : disk.faults t.disk ≡ disk.faults before)
     (given : after ≡ s.disk) (leaves : EachCrash disk after (Leaves s)) (back : IsBack files disk new path after) where
-  pub ends_well : IsServedStore disk t s → (said held : Option (List ℕ)) → s.phase ≡ Idle → (revision : ℕ) → revision ≡ s.store.start.revision + length s.sealed → SaysAll revision said held → EndsWell files disk old new path said held
+  pub ends_well : IsServedStore disk t s → (said held : Option (List ℕ)) → s.phase ≡ Idle → (revision : ℕ) →
+      revision ≡ s.store.start.revision + length s.sealed → SaysAll revision said held →
+      EndsWell files disk old new path said held
   unfolding runs
   ends_well served said held idle revision is told = record {
     start = t.store.start;
@@ -81,15 +90,18 @@ module _ {F D : Type 0} (files : FileGhosts F D) (disk : DiskGhosts D) (old new 
     opened = record { before = before; found = found; stands = stands };
     back = back;
     run = runs disk before after t s opening honest given broken.run;
-    keeps = λ h c o. subst (λ (i : Identity). StandsFor c (after_all i.start s.sealed) ⊎ StandsFor c (after_all i.start (s.sealed ++ s.staged))) broken.same (either s c (leaves h c o));
+    keeps = λ h c o. subst (λ (i : Identity). StandsFor c (after_all i.start s.sealed) ⊎ StandsFor c
+        (after_all i.start (s.sealed ++ s.staged))) broken.same (either s c (leaves h c o));
   }) (λ failed. ⊎_elim (λ more. inl (rw (given, ← well) more)) (λ full. inr full) (broken.cause failed))
 
 -- ---- from the half to its store
-module _ {D : Type 0} (disk : DiskGhosts D) (first last : StoreHalfState D) (t : StoreState D) (none_drawn : first.half.all ≡ []) (none_settled : first.half.settled ≡ []) (is : t ≡ last.store) where
+module _ {D : Type 0} (disk : DiskGhosts D) (first last : StoreHalfState D) (t : StoreState D)
+    (none_drawn : first.half.all ≡ []) (none_settled : first.half.settled ≡ []) (is : t ≡ last.store) where
   same_store : Course disk first last → t.store ≡ first.store.store
   same_store course = ap (λ (x : StoreState D). x.store) is ∙ (course_later disk first last course).store
 
-  pub served_store : Flushes disk first last (Ok tt) → last.half.all ≡ last.half.settled ++ last.drawn → last.drawn ≡ [] → last.store.sealed ≡ last.half.settled → IsServedStore disk first.store t
+  pub served_store : Flushes disk first last (Ok tt) → last.half.all ≡ last.half.settled ++ last.drawn →
+      last.drawn ≡ [] → last.store.sealed ≡ last.half.settled → IsServedStore disk first.store t
   unfolding half_through
   served_store f whole none sealed =
       let settled : last.half.settled ≡ t.sealed = sym sealed ∙ ap (λ (x : StoreState D). x.sealed) (sym is) in record {
@@ -107,15 +119,18 @@ module _ {D : Type 0} (disk : DiskGhosts D) (first last : StoreHalfState D) (t :
   }
 
 -- and of one that was served well, where telling the end failed
-pub served_broken : {D : Type 0} (disk : DiskGhosts D) (t s : StoreState D) → IsServedStore disk t s → (f : CommandFault) → f ≢ StoreFailed → IsBrokenStore disk t s f
+pub served_broken : {D : Type 0} (disk : DiskGhosts D) (t s : StoreState D) → IsServedStore disk t s →
+    (f : CommandFault) → f ≢ StoreFailed → IsBrokenStore disk t s f
 served_broken disk t s served f never = record { run = served.run; same = served.same; cause = λ failed. absurd (never failed) }
 
 -- a store that nothing was done with
-pub untouched_store : {D : Type 0} (disk : DiskGhosts D) (t : StoreState D) → GoesThrough disk t t → (f : CommandFault) → f ≢ StoreFailed → IsBrokenStore disk t t f
+pub untouched_store : {D : Type 0} (disk : DiskGhosts D) (t : StoreState D) → GoesThrough disk t t →
+    (f : CommandFault) → f ≢ StoreFailed → IsBrokenStore disk t t f
 untouched_store disk t through f never = record { run = through; same = refl; cause = λ failed. absurd (never failed) }
 
 -- and a half
-pub untouched_half : {D : Type 0} (disk : DiskGhosts D) (h : StoreHalfState D) → Flushes disk h h (Ok tt) → (f : CommandFault) → f ≢ StoreFailed → IsBrokenOff disk h h f
+pub untouched_half : {D : Type 0} (disk : DiskGhosts D) (h : StoreHalfState D) → Flushes disk h h (Ok tt) →
+    (f : CommandFault) → f ≢ StoreFailed → IsBrokenOff disk h h f
 untouched_half disk h flushed f never = record { ended = Ok tt; flushed = flushed; cause = λ failed. absurd (never failed) }
 
 -- no store failed where connections weren't let in
@@ -124,10 +139,16 @@ attending_calm f (inl device) is = let both : Device ≡ StoreFailed = sym devic
 attending_calm f (inr memory) is = let both : Memory ≡ StoreFailed = sym memory ∙ is in absurd cc
 
 -- what a service comes to, whose disk was opened at this path alone
-module _ {F D R W : Type 0} (files : FileGhosts F D) (disk : DiskGhosts D) (remaining : R → Option (List ℕ)) (contents : W → Option (List ℕ)) (old new : Environment F R W) (path : List ℕ)
-    (asked : files.asked new.files ≡ files.asked old.files ++ (path, Writing) ∷ []) (others : KeepsOthers files.at old.files new.files path) where
-  pub serves_well : IsAtEnd (remaining new.reader.inner) → EndsWell files disk old.files new.files path (contents old.writer.inner) (contents new.writer.inner) → Serves files disk remaining contents old new path (Ok tt)
+module _ {F D R W : Type 0} (files : FileGhosts F D) (disk : DiskGhosts D) (remaining : R → Option (List ℕ))
+    (contents : W → Option (List ℕ)) (old new : Environment F R W) (path : List ℕ)
+    (asked : files.asked new.files ≡ files.asked old.files ++ (path, Writing) ∷ [])
+    (others : KeepsOthers files.at old.files new.files path) where
+  pub serves_well : IsAtEnd (remaining new.reader.inner) →
+      EndsWell files disk old.files new.files path (contents old.writer.inner) (contents new.writer.inner) →
+      Serves files disk remaining contents old new path (Ok tt)
   serves_well ended ends = record { well = ends; ended = ended; badly = tt; calm = tt; asked = asked; others = others }
 
-  pub serves_badly : (f : CommandFault) → EndsBadly files disk old.files new.files path f → (f ≡ StoreFailed → failures (streams_of new) ≡ failures (streams_of old)) → Serves files disk remaining contents old new path (Err f)
+  pub serves_badly : (f : CommandFault) → EndsBadly files disk old.files new.files path f →
+      (f ≡ StoreFailed → failures (streams_of new) ≡ failures (streams_of old)) →
+      Serves files disk remaining contents old new path (Err f)
   serves_badly f ends calm = record { well = tt; ended = tt; badly = ends; calm = calm; asked = asked; others = others }

@@ -1,5 +1,6 @@
 -- The first line of an input, as it comes in.
-use Rattle.std.proofs.Common.{◌≡◌, ◌+◌, ℕ, List, [], ◌∷◌, ◌++◌, take, drop, Bool, true, false, Option, Some, refl, sym, ap, subst, ◌∙◌, append_assoc, append-nil}
+use Rattle.std.proofs.Common.{◌≡◌, ◌+◌, ℕ, List, [], ◌∷◌, ◌++◌, take, drop, Bool, true, false, Option, Some, refl, sym}
+use Rattle.std.proofs.Common.{ap, subst, ◌∙◌, append_assoc, append-nil}
 use Rattle.std.specs.Prelude.{IfSome}
 use Rattle.std.specs.Io.KnownBytes.{Consumes, IsAtEnd}
 use Rattle.fp_base.proofs.Known.{Consumes-some, IfSome-each}
@@ -29,7 +30,8 @@ first-none first line none = record {
   read = λ input is. (input, is, refl);
 }
 
-module _ (first now then : Option (List ℕ)) (line : List ℕ) (request : RequestLine) (u : IsUnderWay first now line request) (bytes : List ℕ) (read : Consumes now then bytes) where
+module _ (first now then : Option (List ℕ)) (line : List ℕ) (request : RequestLine)
+    (u : IsUnderWay first now line request) (bytes : List ℕ) (read : Consumes now then bytes) where
   -- the input, as far as it is read now
   reads : (input : List ℕ) → first ≡ Some input → (rest : List ℕ) × (then ≡ Some rest) × (input ≡ (u.came ++ bytes) ++ rest)
   reads input is =
@@ -46,7 +48,9 @@ module _ (first now then : Option (List ℕ)) (line : List ℕ) (request : Reque
       }
 
   -- bytes without a newline lengthen it
-  pub first-more : (k : List ℕ) (more : RequestLine) → lines bytes ≡ bytes ∷ [] → ((l : List ℕ) → line ≡ line_up_to_limit l → k ≡ line_up_to_limit (l ++ bytes)) → ((rest : List ℕ) → is_left more rest ≡ is_left request (bytes ++ rest))
+  pub first-more : (k : List ℕ) (more : RequestLine) → lines bytes ≡ bytes ∷ [] →
+      ((l : List ℕ) → line ≡ line_up_to_limit l → k ≡ line_up_to_limit (l ++ bytes)) →
+      ((rest : List ℕ) → is_left more rest ≡ is_left request (bytes ++ rest))
       → IsUnderWay first then k more
   first-more k more one grown goes = record {
     came = u.came ++ bytes;
@@ -59,29 +63,39 @@ module _ (first now then : Option (List ℕ)) (line : List ℕ) (request : Reque
   -- a newline ends it
   module _ (at : ℕ) (cut : IsCutAt bytes at) where
     pub first-asks : IfSome first (λ input. AskLines (lines_at false line bytes) then (asked_by_input input))
-    first-asks = IfSome-each first (λ input. AskLines (lines_at false line bytes) then (asked_by_input input)) (λ input is. lines-read now then bytes read line (asked_by_input input) (asked input is))
+    first-asks = IfSome-each first (λ input. AskLines (lines_at false line bytes) then (asked_by_input input))
+        (λ input is. lines-read now then bytes read line (asked_by_input input) (asked input is))
 
     ended : List ℕ
     ended = u.came ++ take at bytes
 
-    pub first-told : (final : RequestLine) (is : Bool) → ((rest : List ℕ) → is_left final rest ≡ is_left request (take at bytes ++ rest)) → is ≡ is_left final [] → IfSome first (λ input. is ≡ is_request_line (first_line input))
+    pub first-told : (final : RequestLine) (is : Bool) →
+        ((rest : List ℕ) → is_left final rest ≡ is_left request (take at bytes ++ rest)) → is ≡ is_left final [] →
+        IfSome first (λ input. is ≡ is_request_line (first_line input))
     first-told final is goes told = IfSome-each first (λ input. is ≡ is_request_line (first_line input)) (λ input known.
         let r = reads input known in let tail = drop (at + 1) bytes ++ r.0 in
-        let one : lines (u.came ++ take at bytes) ≡ (u.came ++ take at bytes) ∷ [] = lines-append u.came (take at bytes) (take at bytes) [] u.one cut.one in
+        let one : lines (u.came ++ take at bytes) ≡ (u.came ++ take at bytes) ∷ [] =
+        lines-append u.came (take at bytes) (take at bytes) [] u.one cut.one in
         let parts : input ≡ (u.came ++ take at bytes) ++ 10 ∷ tail =
-        r.2 ∙ ap (λ (l : List ℕ). (u.came ++ l) ++ r.0) (sym cut.parts) ∙ append_assoc u.came (take at bytes ++ 10 ∷ drop (at + 1) bytes) r.0
-        ∙ ap (λ (l : List ℕ). u.came ++ l) (append_assoc (take at bytes) (10 ∷ drop (at + 1) bytes) r.0) ∙ sym (append_assoc u.came (take at bytes) (10 ∷ tail)) in
-        let all : lines input ≡ ((u.came ++ take at bytes) ++ []) ∷ lines tail = ap lines parts ∙ lines-append (u.came ++ take at bytes) (10 ∷ tail) [] (lines tail) one refl in
-        told ∙ goes [] ∙ u.state (take at bytes ++ []) ∙ ap is_request_line (sym (append_assoc u.came (take at bytes) []) ∙ sym (ap first_of all)))
+        r.2 ∙ ap (λ (l : List ℕ). (u.came ++ l) ++ r.0) (sym cut.parts) ∙
+        append_assoc u.came (take at bytes ++ 10 ∷ drop (at + 1) bytes) r.0
+        ∙ ap (λ (l : List ℕ). u.came ++ l) (append_assoc (take at bytes) (10 ∷ drop (at + 1) bytes) r.0) ∙
+        sym (append_assoc u.came (take at bytes) (10 ∷ tail)) in
+        let all : lines input ≡ ((u.came ++ take at bytes) ++ []) ∷ lines tail = ap lines parts ∙
+        lines-append (u.came ++ take at bytes) (10 ∷ tail) [] (lines tail) one refl in
+        told ∙ goes [] ∙ u.state (take at bytes ++ []) ∙
+        ap is_request_line (sym (append_assoc u.came (take at bytes) []) ∙ sym (ap first_of all)))
 
   -- or the end does
   module _ (none : bytes ≡ []) (end : IsAtEnd then) where
     pub last-asks : IfSome first (λ input. AskLines (lines_at true line bytes) then (asked_by_input input))
-    last-asks = IfSome-each first (λ input. AskLines (lines_at true line bytes) then (asked_by_input input)) (λ input is. lines-ended now then bytes read line (asked_by_input input) (asked input is) none end)
+    last-asks = IfSome-each first (λ input. AskLines (lines_at true line bytes) then (asked_by_input input))
+        (λ input is. lines-ended now then bytes read line (asked_by_input input) (asked input is) none end)
 
     pub last-told : (is : Bool) → is ≡ is_left request [] → IfSome first (λ input. is ≡ is_request_line (first_line input))
     last-told is told = IfSome-each first (λ input. is ≡ is_request_line (first_line input)) (λ input known.
         let r = reads input known in let over : r.0 ≡ [] = subst IsAtEnd r.1 end in
         let whole : input ≡ u.came =
-        r.2 ∙ ap (λ (l : List ℕ). (u.came ++ bytes) ++ l) over ∙ append-nil (u.came ++ bytes) ∙ ap (λ (l : List ℕ). u.came ++ l) none ∙ append-nil u.came in
+        r.2 ∙ ap (λ (l : List ℕ). (u.came ++ bytes) ++ l) over ∙ append-nil (u.came ++ bytes) ∙
+        ap (λ (l : List ℕ). u.came ++ l) none ∙ append-nil u.came in
         told ∙ u.state [] ∙ ap is_request_line (append-nil u.came ∙ sym (ap first_of (ap lines whole ∙ u.one))))

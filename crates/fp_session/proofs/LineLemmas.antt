@@ -1,5 +1,7 @@
 -- The lines of an input that comes in pieces.
-use Rattle.std.proofs.Common.{◌≡◌, ℕ, ◌+◌, ◌-◌, ◌≤◌, ◌<◌, zero, suc, min, List, [], ◌∷◌, ◌++◌, length, take, drop, position, Some, None, Bool, true, false, cond, not, map, nat_le, ◌==◌, ◌&&◌, Err, refl, sym, ap, subst, ◌∙◌, length-take, take_all, arith}
+use Rattle.std.proofs.Common.{◌≡◌, ℕ, ◌+◌, ◌-◌, ◌≤◌, ◌<◌, zero, suc, min, List, [], ◌∷◌, ◌++◌, length, take, drop}
+use Rattle.std.proofs.Common.{position, Some, None, Bool, true, false, cond, not, map, nat_le, ◌==◌, ◌&&◌, Err, refl}
+use Rattle.std.proofs.Common.{sym, ap, subst, ◌∙◌, length-take, take_all, arith}
 use Rattle.std.proofs.lemmas.List.{take_min}
 use Rattle.std.proofs.lemmas.Bool.{eqb-true}
 use Rattle.std.proofs.lemmas.List.{map-append}
@@ -13,17 +15,20 @@ use Rattle.fp_session.specs.Asks.{asked_by_lines}
 use Rattle.fp_session.specs.Lines.{line_up_to_limit, lines_with_reply, is_blank, is_space, lines, onto_first}
 
 -- what stands behind a line goes on from it
-pub lines-append : (line bs : List ℕ) (x : List ℕ) (xs : List (List ℕ)) → lines line ≡ line ∷ [] → lines bs ≡ x ∷ xs → lines (line ++ bs) ≡ (line ++ x) ∷ xs
+pub lines-append : (line bs : List ℕ) (x : List ℕ) (xs : List (List ℕ)) → lines line ≡ line ∷ [] →
+    lines bs ≡ x ∷ xs → lines (line ++ bs) ≡ (line ++ x) ∷ xs
 lines-append [] bs x xs one is = is
 lines-append (b ∷ line) bs x xs one is =
-    elim (b == 10) as (λ t. cond t ([] ∷ lines line) (onto_first b (lines line)) ≡ (b ∷ line) ∷ [] → cond t ([] ∷ lines (line ++ bs)) (onto_first b (lines (line ++ bs))) ≡ (b ∷ (line ++ x)) ∷ xs) [
+    elim (b == 10) as (λ t. cond t ([] ∷ lines line) (onto_first b (lines line)) ≡ (b ∷ line) ∷ [] →
+    cond t ([] ∷ lines (line ++ bs)) (onto_first b (lines (line ++ bs))) ≡ (b ∷ (line ++ x)) ∷ xs) [
       | true ↦ λ h. absurd cc
       | false ↦ λ h. ap (onto_first b) (lines-append line bs x xs (rest (lines line) refl h) is)
     ] one
   where
     rest : (ls : List (List ℕ)) → lines line ≡ ls → onto_first b ls ≡ (b ∷ line) ∷ [] → ls ≡ line ∷ []
     rest [] none h = let empty : [] ≡ line = cc in absurd (subst (λ (l : List ℕ). lines l ≡ [] → ⊥) empty (λ e. cc) none)
-    rest (l ∷ ls) is h = let first : b ∷ l ≡ b ∷ line = cc in let none : ls ≡ [] = cc in let same : l ≡ line = cc in ap (λ k. k ∷ ls) same ∙ ap (λ k. line ∷ k) none
+    rest (l ∷ ls) is h = let first : b ∷ l ≡ b ∷ line = cc in let none : ls ≡ [] = cc in let same : l ≡ line = cc in
+        ap (λ k. k ∷ ls) same ∙ ap (λ k. line ∷ k) none
 
 -- ---- the first newline
 
@@ -44,13 +49,17 @@ drop-one n b bs = grind arith
 pub lines-prefix : (bs : List ℕ) → lines (take (prefix_len is_other bs) bs) ≡ take (prefix_len is_other bs) bs ∷ []
 lines-prefix [] = refl
 lines-prefix (b ∷ bs) =
-    elim (b == 10) as (λ t. b == 10 ≡ t → lines (take (cond (not t) (1 + prefix_len is_other bs) 0) (b ∷ bs)) ≡ take (cond (not t) (1 + prefix_len is_other bs) 0) (b ∷ bs) ∷ []) [
+    elim (b == 10) as (λ t. b == 10 ≡ t →
+    lines (take (cond (not t) (1 + prefix_len is_other bs) 0) (b ∷ bs)) ≡ take
+    (cond (not t) (1 + prefix_len is_other bs) 0) (b ∷ bs) ∷ []) [
       | true ↦ λ e. refl
-      | false ↦ λ e. subst (λ p. lines p ≡ p ∷ []) (sym (take-one (prefix_len is_other bs) b bs)) (line-cons b (take (prefix_len is_other bs) bs) e (lines-prefix bs))
+      | false ↦ λ e. subst (λ p. lines p ≡ p ∷ []) (sym (take-one (prefix_len is_other bs) b bs))
+          (line-cons b (take (prefix_len is_other bs) bs) e (lines-prefix bs))
     ] refl
 
 -- the input falls apart at its first newline
-prefix-newline : (bs : List ℕ) → prefix_len is_other bs < length bs → take (prefix_len is_other bs) bs ++ 10 ∷ drop (prefix_len is_other bs + 1) bs ≡ bs
+prefix-newline : (bs : List ℕ) → prefix_len is_other bs < length bs →
+    take (prefix_len is_other bs) bs ++ 10 ∷ drop (prefix_len is_other bs + 1) bs ≡ bs
 prefix-newline [] h = absurd (omega arith)
 prefix-newline (b ∷ bs) h = grind (arith, prefix-newline bs, eqb-true, take-one, drop-one)
 
@@ -68,9 +77,11 @@ newline_none bs e = grind (arith, lines-prefix bs, take_all)
 -- ---- a line that is cut
 
 -- cutting may begin with what is there already
-pub cut-append : (n : ℕ) (line piece : List ℕ) → take n line ++ take (min (length piece) (n - length (take n line))) piece ≡ take n (line ++ piece)
+pub cut-append : (n : ℕ) (line piece : List ℕ) →
+    take n line ++ take (min (length piece) (n - length (take n line))) piece ≡ take n (line ++ piece)
 cut-append zero line piece = grind arith
-cut-append (suc n) [] piece = let least : min (length piece) (suc n - 0) ≡ min (suc n) (length piece) = omega arith in ap (λ k. take k piece) least ∙ take_min (suc n) piece
+cut-append (suc n) [] piece = let least : min (length piece) (suc n - 0) ≡ min (suc n) (length piece) =
+    omega arith in ap (λ k. take k piece) least ∙ take_min (suc n) piece
 cut-append (suc n) (b ∷ line) piece = grind (arith, cut-append n line piece)
 
 pub cut-short : (line : List ℕ) → length line ≤ LONGEST_LINE → line_up_to_limit line ≡ line
@@ -91,16 +102,21 @@ is_blank-long l h = ap (λ b. b && list_all is_space l) (lt-leb (length l) LONGE
 -- of a line that is too long no more is looked at
 pub cut-same : (l : List ℕ) → (is_blank (line_up_to_limit l) ≡ is_blank l) × (line_of (line_up_to_limit l) ≡ line_of l)
 cut-same l =
-    elim (nat_le (length l) LONGEST_LINE) as (λ b. nat_le (length l) LONGEST_LINE ≡ b → (is_blank (line_up_to_limit l) ≡ is_blank l) × (line_of (line_up_to_limit l) ≡ line_of l)) [
+    elim (nat_le (length l) LONGEST_LINE) as
+    (λ b. nat_le (length l) LONGEST_LINE ≡ b → (is_blank (line_up_to_limit l) ≡ is_blank l) ×
+    (line_of (line_up_to_limit l) ≡ line_of l)) [
       | true ↦ λ short. let same = cut-short l (leb-true _ _ short) in (ap is_blank same, ap line_of same)
       | false ↦ λ long.
           let over : LONGEST_LINE < length l = leb-false _ _ long in
-          let cut_over = cut-long l over in
-          (is_blank-long (line_up_to_limit l) cut_over ∙ sym (is_blank-long l over), line_of-long (line_up_to_limit l) cut_over ∙ sym (line_of-long l over))
+          let cut_over = cut-long l over in (
+            is_blank-long (line_up_to_limit l) cut_over ∙ sym (is_blank-long l over),
+            line_of-long (line_up_to_limit l) cut_over ∙ sym (line_of-long l over),
+          )
     ] refl
 
 pub asked-append : (ls ms : List (List ℕ)) → asked_by_lines (ls ++ ms) ≡ asked_by_lines ls ++ asked_by_lines ms
-asked-append ls ms = ap (λ (l : List (List ℕ)). map line_of l) (filter-append (λ l. not (is_blank l)) ls ms) ∙ map-append line_of (lines_with_reply ls) (lines_with_reply ms)
+asked-append ls ms = ap (λ (l : List (List ℕ)). map line_of l) (filter-append (λ l. not (is_blank l)) ls ms) ∙
+    map-append line_of (lines_with_reply ls) (lines_with_reply ms)
 
 -- a blank line asks nothing, another one what it says
 pub asked-blank : (l : List ℕ) → is_blank l ≡ true → asked_by_lines (l ∷ []) ≡ []

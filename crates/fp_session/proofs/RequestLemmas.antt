@@ -5,7 +5,9 @@ use Rattle.fp_session.specs.Requests.{is_version, version}
 
 module _ (came byte : ℕ) (rest : List ℕ) where
   -- one byte of it more
-  pub version_next : came < length version → is_version (drop came version) (byte ∷ rest) ≡ (byte == get_or version came 0 && is_version (drop (came + 1) version) rest)
+  pub version_next : came < length version →
+      is_version (drop came version) (byte ∷ rest) ≡
+      (byte == get_or version came 0 && is_version (drop (came + 1) version) rest)
   version_next below = at_drop_more (λ left. is_version left (byte ∷ rest)) version came 0 below
 
   -- all of it came

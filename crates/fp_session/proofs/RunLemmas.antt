@@ -1,5 +1,7 @@
 -- Runs over what is asked: joined, cut off, and where no reply tells of wanting memory.
-use Rattle.std.proofs.Common.{◌≡◌, ◌≤◌, ℕ, suc, ◌+◌, List, [], ◌∷◌, ◌++◌, map, Option, Some, None, IsSomeAnd, Err, Bool, true, ◌&&◌, refl, sym, ap, subst, ◌∙◌, append_assoc, append-nil, ◌<◌, get_or, length, take, arith}
+use Rattle.std.proofs.Common.{◌≡◌, ◌≤◌, ℕ, suc, ◌+◌, List, [], ◌∷◌, ◌++◌, map, Option, Some, None, IsSomeAnd, Err, Bool}
+use Rattle.std.proofs.Common.{true, ◌&&◌, refl, sym, ap, subst, ◌∙◌, append_assoc, append-nil, ◌<◌, get_or, length}
+use Rattle.std.proofs.Common.{take, arith}
 use Rattle.std.proofs.lemmas.List.{map-append, take_all, take_more}
 use Rattle.std.proofs.lemmas.List.Folds.{list_all-append}
 use Rattle.std.proofs.Math.Bool.{and-true}
@@ -13,18 +15,22 @@ use Rattle.fp_edit.specs.Spelled.{Tells, TellsInSet}
 use Rattle.fp_edit.specs.declared.line.PartFault.{PartFault}
 use Rattle.fp_edit.specs.declared.line.PartFault.TheVariants as part
 use Rattle.fp_edit.specs.declared.line.LineFault.{LineFault}
-use Rattle.fp_edit.specs.declared.line.LineFault.TheVariants.{TooLong, NotJson, NotObject, BadMember, BadOp, BadKey, BadIf, BadFlag, BadSet, InSet, Memory}
+use Rattle.fp_edit.specs.declared.line.LineFault.TheVariants.{TooLong, NotJson, NotObject, BadMember, BadOp, BadKey}
+use Rattle.fp_edit.specs.declared.line.LineFault.TheVariants.{BadIf, BadFlag, BadSet, InSet, Memory}
 use Rattle.fp_session.specs.Asks.{Ask}
-use Rattle.fp_session.specs.Reply.{Reply, no_edit, is_told, texts_of, reply_text, told_if, reply_of_code, fault_of, fault_in, bad_flag_or_memory, bad_flag_in_or_memory}
+use Rattle.fp_session.specs.Reply.{Reply, no_edit, is_told, texts_of, reply_text, told_if, reply_of_code, fault_of}
+use Rattle.fp_session.specs.Reply.{fault_in, bad_flag_or_memory, bad_flag_in_or_memory}
 use Rattle.fp_session.specs.Progress.{IsToldUpTo}
 use Rattle.fp_session.specs.declared.fault.ApplyFault.{ApplyFault}
 use Rattle.fp_session.specs.declared.replies.Telling.{Telling}
 use Rattle.fp_session.specs.declared.reply.Reply as code
 use Rattle.fp_session.specs.declared.reply.Reply.TheVariants.{NoEdit}
-use Rattle.fp_session.specs.Run.{verdict, after, replies_to, script, show_line, Answers, IsRun, IsRunWritten, IsAfterPrefix, IsTold, IsToldBy, most_open}
+use Rattle.fp_session.specs.Run.{verdict, after, replies_to, script, show_line, Answers, IsRun, IsRunWritten}
+use Rattle.fp_session.specs.Run.{IsAfterPrefix, IsTold, IsToldBy, most_open}
 
 -- one run after another
-pub run-append : (s t u : State) (xs ys : List Ask) (rs qs : List Reply) → IsRun s xs rs t → IsRun t ys qs u → IsRun s (xs ++ ys) (rs ++ qs) u
+pub run-append : (s t u : State) (xs ys : List Ask) (rs qs : List Reply) → IsRun s xs rs t → IsRun t ys qs u →
+    IsRun s (xs ++ ys) (rs ++ qs) u
 run-append s t u [] ys rs qs h k = grind arith
 run-append s t u (x ∷ xs) ys [] qs h k = absurd h
 run-append s t u (x ∷ xs) ys (r ∷ rs) qs h k = (h.0, h.1, run-append h.0 t u xs ys rs qs h.2 k)
@@ -39,7 +45,8 @@ run-none s t (x ∷ xs) h = absurd h
 
 pub texts_of-append : (rs qs : List Reply) → texts_of (rs ++ qs) ≡ texts_of rs ++ texts_of qs
 texts_of-append [] qs = refl
-texts_of-append (r ∷ rs) qs = ap (λ t. (reply_text r ++ 10 ∷ []) ++ t) (texts_of-append rs qs) ∙ sym (append_assoc (reply_text r ++ 10 ∷ []) (texts_of rs) (texts_of qs))
+texts_of-append (r ∷ rs) qs = ap (λ t. (reply_text r ++ 10 ∷ []) ++ t) (texts_of-append rs qs) ∙
+    sym (append_assoc (reply_text r ++ 10 ∷ []) (texts_of rs) (texts_of qs))
 
 -- ---- some first of what is asked
 
@@ -58,7 +65,8 @@ prefix-more s u xs ys p = record {
   run = p.run;
 }
 
-pub prefix-behind : (s t u : State) (xs ys : List Ask) (rs : List Reply) → IsRun s xs rs t → IsAfterPrefix t ys u → IsAfterPrefix s (xs ++ ys) u
+pub prefix-behind : (s t u : State) (xs ys : List Ask) (rs : List Reply) → IsRun s xs rs t → IsAfterPrefix t ys u →
+    IsAfterPrefix s (xs ++ ys) u
 prefix-behind s t u xs ys rs run p = record {
   done = xs ++ p.done;
   later = p.later;
@@ -78,7 +86,8 @@ run-lengths s t (x ∷ xs) (r ∷ rs) h = ap suc (run-lengths h.0 t xs rs h.2)
 pub open-more : (fault : ApplyFault) (n most more : ℕ) → most ≤ more → n ≤ most_open fault most → n ≤ most_open fault more
 open-more fault n most more le few = grind arith
 
-pub told-more : (s taken u : State) (xs ys : List Ask) (most more : ℕ) (fault : ApplyFault) (text : List ℕ) → most ≤ more → IsTold s xs most fault text taken u → IsTold s (xs ++ ys) more fault text taken u
+pub told-more : (s taken u : State) (xs ys : List Ask) (most more : ℕ) (fault : ApplyFault) (text : List ℕ) →
+    most ≤ more → IsTold s xs most fault text taken u → IsTold s (xs ++ ys) more fault text taken u
 told-more s taken u xs ys most more fault text le t = record {
   done = t.done;
   batch = t.batch;
@@ -86,7 +95,8 @@ told-more s taken u xs ys most more fault text le t = record {
   kept = t.kept;
   replies = t.replies;
   waiting = t.waiting;
-  split = ap (λ (l : List Ask). l ++ ys) t.split ∙ append_assoc t.done (t.batch ++ t.later) ys ∙ ap (λ (l : List Ask). t.done ++ l) (append_assoc t.batch t.later ys);
+  split = ap (λ (l : List Ask). l ++ ys) t.split ∙ append_assoc t.done (t.batch ++ t.later) ys ∙
+      ap (λ (l : List Ask). t.done ++ l) (append_assoc t.batch t.later ys);
   run = t.run;
   on = t.on;
   few = open-more fault (length t.batch) most more le t.few;
@@ -94,7 +104,8 @@ told-more s taken u xs ys most more fault text le t = record {
   written = t.written;
 }
 
-pub told_by-more : (s taken u : State) (xs ys : List Ask) (most : ℕ) (fault : ApplyFault) (old new : Option (List ℕ)) → IsToldBy s xs most fault old new taken u → IsToldBy s (xs ++ ys) most fault old new taken u
+pub told_by-more : (s taken u : State) (xs ys : List Ask) (most : ℕ) (fault : ApplyFault) (old new : Option (List ℕ))
+    → IsToldBy s xs most fault old new taken u → IsToldBy s (xs ++ ys) most fault old new taken u
 told_by-more s taken u xs ys most fault old new t = (t.0, t.1, told-more s taken u xs ys most most fault t.0 (omega arith) t.2)
 
 -- ---- what is no edit
@@ -108,7 +119,8 @@ no_edit-answers s x e fault = by_fault e fault
     of_flag None h = absurd h
     of_flag (Some f) h = stands (line.bad_flag f) h
 
-    of_flag_in : (at : ℕ) (o : Option flag.Fault) → IsSomeAnd o (λ f. x ≡ Err (line.in_set at (line.bad_flag f))) → Answers s x (bad_flag_in_or_memory at o) s
+    of_flag_in : (at : ℕ) (o : Option flag.Fault) → IsSomeAnd o (λ f. x ≡ Err (line.in_set at (line.bad_flag f))) →
+        Answers s x (bad_flag_in_or_memory at o) s
     of_flag_in at None h = absurd h
     of_flag_in at (Some f) h = stands (line.in_set at (line.bad_flag f)) h
 
@@ -140,18 +152,22 @@ told-verdict : (s t : State) (x : Ask) (r : Reply) → is_told r ≡ true → An
 told-verdict s t x r told answers = grind arith
 
 -- each reply is the verdict
-pub run-told : (s t : State) (xs : List Ask) (rs : List Reply) → IsRun s xs rs t → list_all is_told rs ≡ true → (rs ≡ replies_to s xs) × (t ≡ after s xs)
+pub run-told : (s t : State) (xs : List Ask) (rs : List Reply) → IsRun s xs rs t → list_all is_told rs ≡ true →
+    (rs ≡ replies_to s xs) × (t ≡ after s xs)
 run-told s t [] rs h e = grind arith
 run-told s t (x ∷ xs) [] h e = absurd h
 run-told s t (x ∷ xs) (r ∷ rs) h e = let rest = run-told h.0 t xs rs h.2 in let is = told-verdict s h.0 x r in grind (arith, rest, is, h.1)
 
-pub written-flags : (start : State) (xs : List Ask) (told : Bool) (old new : Option (List ℕ)) (now : State) → IsRunWritten start xs told old new now → told ≡ true → now ≡ after start xs
+pub written-flags : (start : State) (xs : List Ask) (told : Bool) (old new : Option (List ℕ)) (now : State) →
+    IsRunWritten start xs told old new now → told ≡ true → now ≡ after start xs
 written-flags start xs told old new now r all = (run-told start now xs r.replies r.run (sym r.told_is ∙ all)).1
 
-pub written-script : (start : State) (xs : List Ask) (told : Bool) (old new : Option (List ℕ)) (now : State) → IsRunWritten start xs told old new now → told ≡ true → Appends old new (script start xs)
+pub written-script : (start : State) (xs : List Ask) (told : Bool) (old new : Option (List ℕ)) (now : State) →
+    IsRunWritten start xs told old new now → told ≡ true → Appends old new (script start xs)
 written-script start xs told old new now r all =
     let is = run-told start now xs r.replies r.run (sym r.told_is ∙ all) in
-    let said : texts_of r.replies ++ show_line now ≡ script start xs = ap (λ rs. texts_of rs ++ show_line now) is.0 ∙ ap (λ t. texts_of (replies_to start xs) ++ show_line t) is.1 in
+    let said : texts_of r.replies ++ show_line now ≡ script start xs = ap (λ rs. texts_of rs ++ show_line now) is.0 ∙
+    ap (λ t. texts_of (replies_to start xs) ++ show_line t) is.1 in
     subst (Appends old new) said r.written
 
 -- where what waited is kept, each reply is told as it is
@@ -160,17 +176,25 @@ told_if-kept [] = refl
 told_if-kept (r ∷ rs) = ap (λ (l : List Reply). r ∷ l) (told_if-kept rs)
 
 -- one more of those that wait is told
-pub told_up_to-more : (is_kept : Bool) (waiting : List code.Reply) (t u : Telling) (n : ℕ) (reply : code.Reply) (told : Reply) → n < length waiting → reply ≡ get_or waiting n reply → told ≡ told_if is_kept (reply_of_code reply)
-    → u.text.items ≡ t.text.items ++ texts_of (told ∷ []) → u.is_told ≡ (t.is_told && is_told told) → IsToldUpTo is_kept waiting t n → IsToldUpTo is_kept waiting u (n + 1)
+pub told_up_to-more : (is_kept : Bool) (waiting : List code.Reply) (t u : Telling) (n : ℕ) (reply : code.Reply)
+    (told : Reply) → n < length waiting → reply ≡ get_or waiting n reply →
+    told ≡ told_if is_kept (reply_of_code reply)
+    → u.text.items ≡ t.text.items ++ texts_of (told ∷ []) → u.is_told ≡ (t.is_told && is_told told) →
+    IsToldUpTo is_kept waiting t n → IsToldUpTo is_kept waiting u (n + 1)
 told_up_to-more is_kept waiting t u n reply told lt here is texts tells h =
     let first = λ (xs : List code.Reply). map (told_if is_kept) (map reply_of_code xs) in
-    let taken : take (n + 1) waiting ≡ take n waiting ++ reply ∷ [] = take_more waiting n reply lt ∙ ap (λ (x : code.Reply). take n waiting ++ x ∷ []) (sym here) in
+    let taken : take (n + 1) waiting ≡ take n waiting ++ reply ∷ [] = take_more waiting n reply lt ∙
+    ap (λ (x : code.Reply). take n waiting ++ x ∷ []) (sym here) in
     let all_of : first (take (n + 1) waiting) ≡ first (take n waiting) ++ told ∷ [] =
-    ap first taken ∙ ap (λ (l : List Reply). map (told_if is_kept) l) (map-append reply_of_code (take n waiting) (reply ∷ [])) ∙ map-append (told_if is_kept) (map reply_of_code (take n waiting)) (reply_of_code reply ∷ [])
+    ap first taken ∙ ap (λ (l : List Reply). map (told_if is_kept) l)
+    (map-append reply_of_code (take n waiting) (reply ∷ [])) ∙
+    map-append (told_if is_kept) (map reply_of_code (take n waiting)) (reply_of_code reply ∷ [])
     ∙ ap (λ (x : Reply). first (take n waiting) ++ x ∷ []) (sym is) in
     record {
-      texts = texts ∙ ap (λ (l : List ℕ). l ++ texts_of (told ∷ [])) h.texts ∙ sym (texts_of-append (first (take n waiting)) (told ∷ [])) ∙ ap texts_of (sym all_of);
-      tells = tells ∙ ap (λ b. b && is_told told) h.tells ∙ sym (one_more (first (take n waiting))) ∙ ap (λ (l : List Reply). list_all is_told l) (sym all_of);
+      texts = texts ∙ ap (λ (l : List ℕ). l ++ texts_of (told ∷ [])) h.texts ∙
+          sym (texts_of-append (first (take n waiting)) (told ∷ [])) ∙ ap texts_of (sym all_of);
+      tells = tells ∙ ap (λ b. b && is_told told) h.tells ∙ sym (one_more (first (take n waiting))) ∙
+          ap (λ (l : List Reply). list_all is_told l) (sym all_of);
     }
   where
     one_more : (rs : List Reply) → list_all is_told (rs ++ told ∷ []) ≡ list_all is_told rs && is_told told
@@ -178,7 +202,11 @@ told_up_to-more is_kept waiting t u n reply told lt here is texts tells h =
 
 -- all of them are
 pub told_up_to-all : (is_kept : Bool) (waiting : List code.Reply) (t : Telling) → IsToldUpTo is_kept waiting t (length waiting)
-    → (t.text.items ≡ texts_of (map (told_if is_kept) (map reply_of_code waiting))) × (t.is_told ≡ list_all is_told (map (told_if is_kept) (map reply_of_code waiting)))
+    → (t.text.items ≡ texts_of (map (told_if is_kept) (map reply_of_code waiting))) ×
+    (t.is_told ≡ list_all is_told (map (told_if is_kept) (map reply_of_code waiting)))
 told_up_to-all is_kept waiting t h =
-    let all : take (length waiting) waiting ≡ waiting = take_all (length waiting) waiting (omega arith) in
-    (h.texts ∙ ap (λ (l : List code.Reply). texts_of (map (told_if is_kept) (map reply_of_code l))) all, h.tells ∙ ap (λ (l : List code.Reply). list_all is_told (map (told_if is_kept) (map reply_of_code l))) all)
+    let all : take (length waiting) waiting ≡ waiting = take_all (length waiting) waiting (omega arith) in (
+      h.texts ∙ ap (λ (l : List code.Reply). texts_of (map (told_if is_kept) (map reply_of_code l))) all,
+      h.tells ∙
+          ap (λ (l : List code.Reply). list_all is_told (map (told_if is_kept) (map reply_of_code l))) all,
+    )

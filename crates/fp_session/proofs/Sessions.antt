@@ -110,19 +110,26 @@ module _ {D : Type 0} (disk : Ghosts D) (s a : SessionState D) (is : s ≡ a) wh
   })
 
 -- why a step of a compaction wasn't taken
-pub can_fail : {D : Type 0} (disk : Ghosts D) (a b : SessionState D) (f : CommitFault) → FailsBy disk a.half.store b.half.store f → CanFail disk f a b
+pub can_fail : {D : Type 0} (disk : Ghosts D) (a b : SessionState D) (f : CommitFault) →
+    FailsBy disk a.half.store b.half.store f → CanFail disk f a b
 can_fail disk a b commit.StoreFailed fails = inr fails
 can_fail disk a b commit.Memory fails = tt
 
 -- ---- refusals
-never_memory : (a b c : Bool) (k : Option ℕ) → first_failed ((a, fault.Conflict k) ∷ (b, fault.SetTooLarge) ∷ (c, fault.RevisionsUsed) ∷ []) ≡ Some fault.Memory → ⊥
+never_memory : (a b c : Bool) (k : Option ℕ) →
+    first_failed ((a, fault.Conflict k) ∷ (b, fault.SetTooLarge) ∷ (c, fault.RevisionsUsed) ∷ []) ≡ Some fault.Memory
+    → ⊥
 never_memory a b c k h = grind arith
 
-never_in_set : (s : State) (b c : Bool) (at : ℕ) (ps : List ProposedPart) → first_failed (keys_from s at ps ++ (b, fault.SetTooLarge) ∷ (c, fault.RevisionsUsed) ∷ []) ≡ Some fault.Memory → ⊥
+never_in_set : (s : State) (b c : Bool) (at : ℕ) (ps : List ProposedPart) →
+    first_failed (keys_from s at ps ++ (b, fault.SetTooLarge) ∷ (c, fault.RevisionsUsed) ∷ []) ≡ Some fault.Memory → ⊥
 never_in_set s b c at [] h = never_memory true b c None h
 never_in_set s b c at (p ∷ ps) h = by_test (never_in_set s b c (suc at) ps) (is_as_expected s p) h
   where
-    by_test : (first_failed (keys_from s (suc at) ps ++ (b, fault.SetTooLarge) ∷ (c, fault.RevisionsUsed) ∷ []) ≡ Some fault.Memory → ⊥) → (t : Bool) → first_failed ((t, fault.ConflictIn at (present s p)) ∷ keys_from s (suc at) ps ++ (b, fault.SetTooLarge) ∷ (c, fault.RevisionsUsed) ∷ []) ≡ Some fault.Memory → ⊥
+    by_test : (first_failed (keys_from s (suc at) ps ++ (b, fault.SetTooLarge) ∷ (c, fault.RevisionsUsed) ∷ []) ≡
+        Some fault.Memory → ⊥) → (t : Bool) →
+        first_failed ((t, fault.ConflictIn at (present s p)) ∷ keys_from s (suc at) ps ++ (b, fault.SetTooLarge) ∷
+        (c, fault.RevisionsUsed) ∷ []) ≡ Some fault.Memory → ⊥
     by_test behind true h = behind h
     by_test behind false h = absurd cc
 

@@ -11,7 +11,8 @@ answers_still = record { well = λ _. refl; ill = λ no. absurd (cc no) }
 pub answers_ok : {S T : Type 0} {before now : ℕ} {x : S} {y : T} → CountsFaults before now (Ok x) → CountsFaults before now (Ok y)
 answers_ok a = record { well = λ _. a.well refl; ill = λ no. absurd (cc no) }
 
-pub answers_err : {S T : Type 0} {before now : ℕ} {e f : DiskFault} → CountsFaults {T = S} before now (Err e) → CountsFaults {T = T} before now (Err f)
+pub answers_err : {S T : Type 0} {before now : ℕ} {e f : DiskFault} → CountsFaults {T = S} before now (Err e) →
+    CountsFaults {T = T} before now (Err f)
 answers_err a = record { well = λ no. absurd (cc no); ill = λ _. a.ill refl }
 
 -- and what the call kept is kept by the caller

@@ -11,7 +11,8 @@ whole Nothing rest = omega arith
 whole (Has revision) rest = omega arith
 
 -- where a hello stands, there are no fewer bytes than it has
-pub no_cut : (o n : Option (List ℕ)) (taken : List ℕ) (hello : Hello) (rest : List ℕ) → Consumes o n taken → IsAtEnd n → length taken < HELLO → o ≡ Some (hello_bytes hello ++ rest) → ⊥
+pub no_cut : (o n : Option (List ℕ)) (taken : List ℕ) (hello : Hello) (rest : List ℕ) → Consumes o n taken →
+    IsAtEnd n → length taken < HELLO → o ≡ Some (hello_bytes hello ++ rest) → ⊥
 no_cut None n taken hello rest p end short e = absurd cc
 no_cut (Some a) None taken hello rest p end short e = p
 no_cut (Some a) (Some b) taken hello rest p end short e =

@@ -1,5 +1,6 @@
 -- Bytes are read in one way.
-use Rattle.std.proofs.Common.{◌≡◌, ℕ, ◌<◌, ◌^◌, List, [], ◌∷◌, ◌++◌, length, take, drop, Option, Some, None, refl, sym, ap, ap₂, subst, ◌∙◌, append_assoc, arith, inl, inr, length-append}
+use Rattle.std.proofs.Common.{◌≡◌, ℕ, ◌<◌, ◌^◌, List, [], ◌∷◌, ◌++◌, length, take, drop, Option, Some, None, refl, sym}
+use Rattle.std.proofs.Common.{ap, ap₂, subst, ◌∙◌, append_assoc, arith, inl, inr, length-append}
 use Rattle.std.specs.Int.{w32, w64, from_be_bytes}
 use Rattle.std.proofs.lemmas.List.{append-nil, take_at, drop_at}
 use Rattle.std.proofs.lemmas.Nat.{from_be_bytes-to_be_bytes_4, from_be_bytes-to_be_bytes_8}
@@ -18,10 +19,13 @@ pub record SameHead (r s r2 s2 : ℕ) (x y : List ℕ) : Type 0 where
   pub size : s ≡ s2
   pub behind : x ≡ y
 
-pub same_head : (r s r2 s2 : ℕ) (x y : List ℕ) → r < 2 ^ 64 → s < 2 ^ 32 → r2 < 2 ^ 64 → s2 < 2 ^ 32 → head r s ++ x ≡ head r2 s2 ++ y → SameHead r s r2 s2 x y
+pub same_head : (r s r2 s2 : ℕ) (x y : List ℕ) → r < 2 ^ 64 → s < 2 ^ 32 → r2 < 2 ^ 64 → s2 < 2 ^ 32 →
+    head r s ++ x ≡ head r2 s2 ++ y → SameHead r s r2 s2 x y
 same_head r s r2 s2 x y fr fs fr2 fs2 e = record {
-  revision = sym (from_be_bytes-to_be_bytes_8 r fr) ∙ ap (λ (l : List ℕ). from_be_bytes w64 (take 8 (drop 4 l))) e ∙ from_be_bytes-to_be_bytes_8 r2 fr2;
-  size = sym (from_be_bytes-to_be_bytes_4 s fs) ∙ ap (λ (l : List ℕ). from_be_bytes w32 (take 4 (drop 12 l))) e ∙ from_be_bytes-to_be_bytes_4 s2 fs2;
+  revision = sym (from_be_bytes-to_be_bytes_8 r fr) ∙ ap (λ (l : List ℕ). from_be_bytes w64 (take 8 (drop 4 l))) e ∙
+      from_be_bytes-to_be_bytes_8 r2 fr2;
+  size = sym (from_be_bytes-to_be_bytes_4 s fs) ∙ ap (λ (l : List ℕ). from_be_bytes w32 (take 4 (drop 12 l))) e ∙
+      from_be_bytes-to_be_bytes_4 s2 fs2;
   behind = ap (λ (l : List ℕ). drop 16 l) e;
 }
 
@@ -97,7 +101,8 @@ pub frame_goes : (has : Hello) (s : Snapshot) (x : List ℕ) (y : Option FrameFa
 frame_goes has s x None h (inl short) = omega (arith, length-append s.document x)
 frame_goes has s x None h (inr lacks) =
     let short = h.short in let short2 = lacks.lawful.short in let cut = lacks.short in
-    let same = same_head s.revision (length s.document) lacks.revision lacks.size (s.document ++ x) lacks.body h.fits (omega arith) lacks.lawful.fits (omega arith) lacks.is in
+    let same = same_head s.revision (length s.document) lacks.revision lacks.size (s.document ++ x) lacks.body h.fits
+    (omega arith) lacks.lawful.fits (omega arith) lacks.is in
     let size = same.size in let len = ap length same.behind in let more = length-append s.document x in omega arith
 frame_goes has s x (Some f) h p = lawful_stands has s.revision (length s.document) (s.document ++ x) f h p
 
@@ -106,16 +111,20 @@ pub record SameFrame (s t : Snapshot) (x y : List ℕ) : Type 0 where
   pub frame : s ≡ t
   pub behind : x ≡ y
 
-pub same_frame : (has : Hello) (s t : Snapshot) (x y : List ℕ) → IsHead has s.revision (length s.document) → IsHead has t.revision (length t.document)
+pub same_frame : (has : Hello) (s t : Snapshot) (x y : List ℕ) → IsHead has s.revision (length s.document) →
+    IsHead has t.revision (length t.document)
     → frame s.revision s.document ++ x ≡ frame t.revision t.document ++ y → SameFrame s t x y
 same_frame has s t x y p q e =
     let short = p.short in let short2 = q.short in
-    let same = same_head s.revision (length s.document) t.revision (length t.document) (s.document ++ x) (t.document ++ y) p.fits (omega arith) q.fits (omega arith) e in
+    let same = same_head s.revision (length s.document) t.revision (length t.document) (s.document ++ x)
+    (t.document ++ y) p.fits (omega arith) q.fits (omega arith) e in
     let size = same.size in
-    let document : s.document ≡ t.document = sym (take_at s.document x (length t.document) size) ∙ ap (λ (l : List ℕ). take (length t.document) l) same.behind ∙ take_at t.document y (length t.document) refl in
+    let document : s.document ≡ t.document = sym (take_at s.document x (length t.document) size) ∙
+    ap (λ (l : List ℕ). take (length t.document) l) same.behind ∙ take_at t.document y (length t.document) refl in
     record {
       frame = ap₂ (λ (r : ℕ) (d : List ℕ). let made : Snapshot = record { revision = r; document = d } in made) same.revision document;
-      behind = sym (drop_at s.document x (length t.document) size) ∙ ap (λ (l : List ℕ). drop (length t.document) l) same.behind ∙ drop_at t.document y (length t.document) refl;
+      behind = sym (drop_at s.document x (length t.document) size) ∙
+          ap (λ (l : List ℕ). drop (length t.document) l) same.behind ∙ drop_at t.document y (length t.document) refl;
     }
 
 -- ---- one reading
@@ -124,35 +133,52 @@ pub record Same (f g : List Snapshot) (r t : List ℕ) (x y : Option FrameFault)
   pub rest : r ≡ t
   pub fault : x ≡ y
 
-same_reading : (f g : List Snapshot) (has : Hello) (r t : List ℕ) (x y : Option FrameFault) → stream_of f ++ r ≡ stream_of g ++ t → AreNews has f → AreNews has g
+same_reading : (f g : List Snapshot) (has : Hello) (r t : List ℕ) (x y : Option FrameFault) →
+    stream_of f ++ r ≡ stream_of g ++ t → AreNews has f → AreNews has g
     → Stops (has_after has f) r x → Stops (has_after has g) t y → Same f g r t x y
-same_reading [] [] has r t x y e p q a b = record { frames = refl; rest = e; fault = same_stop has t x y (subst (λ (l : List ℕ). Stops has l x) e a) b }
+same_reading [] [] has r t x y e p q a b =
+    record { frames = refl; rest = e; fault = same_stop has t x y (subst (λ (l : List ℕ). Stops has l x) e a) b }
 same_reading [] (u ∷ g) has r t x y e p q a b =
-    absurd (frame_goes has u (stream_of g ++ t) x q.0 (subst (λ (l : List ℕ). Stops has l x) (e ∙ append_assoc (frame u.revision u.document) (stream_of g) t) a))
+    absurd (frame_goes has u (stream_of g ++ t) x q.0
+    (subst (λ (l : List ℕ). Stops has l x) (e ∙ append_assoc (frame u.revision u.document) (stream_of g) t) a))
 same_reading (s ∷ f) [] has r t x y e p q a b =
-    absurd (frame_goes has s (stream_of f ++ r) y p.0 (subst (λ (l : List ℕ). Stops has l y) (sym e ∙ append_assoc (frame s.revision s.document) (stream_of f) r) b))
+    absurd (frame_goes has s (stream_of f ++ r) y p.0
+    (subst (λ (l : List ℕ). Stops has l y) (sym e ∙ append_assoc (frame s.revision s.document) (stream_of f) r)
+    b))
 same_reading (s ∷ f) (u ∷ g) has r t x y e p q a b =
-    let one = same_frame has s u (stream_of f ++ r) (stream_of g ++ t) p.0 q.0 (sym (append_assoc (frame s.revision s.document) (stream_of f) r) ∙ e ∙ append_assoc (frame u.revision u.document) (stream_of g) t) in
+    let one = same_frame has s u (stream_of f ++ r) (stream_of g ++ t) p.0 q.0
+    (sym (append_assoc (frame s.revision s.document) (stream_of f) r) ∙ e ∙
+    append_assoc (frame u.revision u.document) (stream_of g) t) in
     let rev : s.revision ≡ u.revision = ap (λ (z : Snapshot). z.revision) one.frame in
-    let more = same_reading f g (Has s.revision) r t x y one.behind p.1 (subst (λ (n : ℕ). AreNews (Has n) g) (sym rev) q.1) a (subst (λ (n : ℕ). Stops (has_after (Has n) g) t y) (sym rev) b) in
+    let more = same_reading f g (Has s.revision) r t x y one.behind p.1
+    (subst (λ (n : ℕ). AreNews (Has n) g) (sym rev) q.1) a
+    (subst (λ (n : ℕ). Stops (has_after (Has n) g) t y) (sym rev) b) in
     record { frames = ap₂ (λ (z : Snapshot) (l : List Snapshot). z ∷ l) one.frame more.frames; rest = more.rest; fault = more.fault }
 
-pub one_way : (has : Hello) (bytes : List ℕ) (f g : List Snapshot) (r t : List ℕ) (x y : Option FrameFault) → Reads has bytes f r x → Reads has bytes g t y → Same f g r t x y
+pub one_way : (has : Hello) (bytes : List ℕ) (f g : List Snapshot) (r t : List ℕ) (x y : Option FrameFault) →
+    Reads has bytes f r x → Reads has bytes g t y → Same f g r t x y
 one_way has bytes f g r t x y p q = same_reading f g has r t x y (sym p.whole ∙ q.whole) p.news q.news p.stops q.stops
 
 -- other frames in front are the first of those that are read
-pub begins : (o f : List Snapshot) (has : Hello) (m r : List ℕ) (x : Option FrameFault) → stream_of o ++ m ≡ stream_of f ++ r → AreNews has o → AreNews has f → Stops (has_after has f) r x
+pub begins : (o f : List Snapshot) (has : Hello) (m r : List ℕ) (x : Option FrameFault) →
+    stream_of o ++ m ≡ stream_of f ++ r → AreNews has o → AreNews has f → Stops (has_after has f) r x
     → (more : List Snapshot) × (f ≡ o ++ more)
 begins [] f has m r x e p q a = (f, refl)
 begins (s ∷ o) [] has m r x e p q a =
-    absurd (frame_goes has s (stream_of o ++ m) x p.0 (subst (λ (l : List ℕ). Stops has l x) (sym e ∙ append_assoc (frame s.revision s.document) (stream_of o) m) a))
+    absurd (frame_goes has s (stream_of o ++ m) x p.0
+    (subst (λ (l : List ℕ). Stops has l x) (sym e ∙ append_assoc (frame s.revision s.document) (stream_of o) m)
+    a))
 begins (s ∷ o) (u ∷ f) has m r x e p q a =
-    let one = same_frame has s u (stream_of o ++ m) (stream_of f ++ r) p.0 q.0 (sym (append_assoc (frame s.revision s.document) (stream_of o) m) ∙ e ∙ append_assoc (frame u.revision u.document) (stream_of f) r) in
+    let one = same_frame has s u (stream_of o ++ m) (stream_of f ++ r) p.0 q.0
+    (sym (append_assoc (frame s.revision s.document) (stream_of o) m) ∙ e ∙
+    append_assoc (frame u.revision u.document) (stream_of f) r) in
     let rev : s.revision ≡ u.revision = ap (λ (z : Snapshot). z.revision) one.frame in
-    let more = begins o f (Has s.revision) m r x one.behind p.1 (subst (λ (n : ℕ). AreNews (Has n) f) (sym rev) q.1) (subst (λ (n : ℕ). Stops (has_after (Has n) f) r x) (sym rev) a) in
+    let more = begins o f (Has s.revision) m r x one.behind p.1 (subst (λ (n : ℕ). AreNews (Has n) f) (sym rev) q.1)
+    (subst (λ (n : ℕ). Stops (has_after (Has n) f) r x) (sym rev) a) in
     (more.0, ap₂ (λ (z : Snapshot) (l : List Snapshot). z ∷ l) (sym one.frame) more.1)
 
-pub begins_with : (has : Hello) (bytes : List ℕ) (f o : List Snapshot) (r m : List ℕ) (x : Option FrameFault) → Reads has bytes f r x → AreNews has o → bytes ≡ stream_of o ++ m
+pub begins_with : (has : Hello) (bytes : List ℕ) (f o : List Snapshot) (r m : List ℕ) (x : Option FrameFault) →
+    Reads has bytes f r x → AreNews has o → bytes ≡ stream_of o ++ m
     → (more : List Snapshot) × (f ≡ o ++ more)
 begins_with has bytes f o r m x p news e = begins o f has m r x (sym e ∙ p.whole) news p.news p.stops
 

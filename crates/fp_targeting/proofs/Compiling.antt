@@ -1,5 +1,6 @@
 -- Operators at arguments that were compiled.
-use Rattle.std.proofs.Common.{◌≡◌, ◌≤◌, ℕ, List, [], ◌∷◌, length, Bool, true, false, ◌⊎◌, inl, inr, Option, Some, None, is_some, option_map, option_and_then, refl, sym, ap, ◌∙◌, if◌then◌else◌}
+use Rattle.std.proofs.Common.{◌≡◌, ◌≤◌, ℕ, List, [], ◌∷◌, length, Bool, true, false, ◌⊎◌, inl, inr, Option, Some, None}
+use Rattle.std.proofs.Common.{is_some, option_map, option_and_then, refl, sym, ap, ◌∙◌, if◌then◌else◌}
 use Rattle.std.proofs.lemmas.Bool.{leb-true}
 use Rattle.std.proofs.lemmas.Option.{none-some}
 use Rattle.serde_json.specs.Data as json
@@ -54,7 +55,8 @@ looks-other (Unary o) h = refl
 looks-other (Binary o) h = refl
 looks-other (Chain o) h = refl
 
-allowed : (o : Operator) (xs : List Tree) (rs : List Rule) → looks_at_results o ≡ true → rules_from (tree_items xs) ≡ Some rs → allows o (rules_of rs) ≡ takes o (length xs)
+allowed : (o : Operator) (xs : List Tree) (rs : List Rule) → looks_at_results o ≡ true →
+    rules_from (tree_items xs) ≡ Some rs → allows o (rules_of rs) ≡ takes o (length xs)
 allowed o xs rs looks e = allows-count o (rules_of rs) looks ∙ ap (takes o) (count_of-rules_of rs ∙ rules_from-length xs rs e)
 
 pub applies : (b : Bool) (o : Operator) (P : Rule → Type 0) (xs : List Tree) → looks_at_results o ≡ true → takes o (length xs) ≡ true
@@ -74,15 +76,19 @@ refuses o xs looks fit h rs e = allowed o xs rs looks e ∙ fit
 -- ---- an object of one member
 
 formed_rule : (k : List ℕ) (o : Operator) (rs : List Rule) (f : Option Operator) → f ≡ Some o → allows o (rules_of rs) ≡ true
-    → option_and_then (λ p. option_and_then (λ qs. if allows p (rules_of qs) then Some (tree.apply p (rules_of qs)) else None) (Some rs)) f ≡ Some (apply o (rules_of rs))
+    → option_and_then (λ p. option_and_then
+    (λ qs. if allows p (rules_of qs) then Some (tree.apply p (rules_of qs)) else None) (Some rs)) f ≡ Some
+    (apply o (rules_of rs))
 formed_rule k o rs f e fit = rw (e, fit) refl
 
-unformed : (k : List ℕ) (o : Operator) (rs : Option (List Rule)) (f : Option Operator) → f ≡ Some o → ((qs : List Rule) → rs ≡ Some qs → allows o (rules_of qs) ≡ false)
+unformed : (k : List ℕ) (o : Operator) (rs : Option (List Rule)) (f : Option Operator) → f ≡ Some o →
+    ((qs : List Rule) → rs ≡ Some qs → allows o (rules_of qs) ≡ false)
     → option_and_then (λ p. option_and_then (λ qs. if allows p (rules_of qs) then Some (tree.apply p (rules_of qs)) else None) rs) f ≡ None
 unformed k o None f e none = rw e refl
 unformed k o (Some qs) f e none = rw (e, none qs refl) refl
 
-pub operation : (b : Bool) (k : List ℕ) (o : Operator) (d : json.Data) (ds : Items) (P : Rule → Type 0) → operator_of k ≡ Some o → rules_from ds ≡ arguments_of d
+pub operation : (b : Bool) (k : List ℕ) (o : Operator) (d : json.Data) (ds : Items) (P : Rule → Type 0) →
+    operator_of k ≡ Some o → rules_from ds ≡ arguments_of d
     → items_unknown ds ≡ first_unknown d → Applies b o P ds → Compiles b P (json.object (json.member k d json.no_members))
 operation true k o d ds P is arguments unknown x = record {
   rule = apply o (rules_of x.rules);
@@ -100,9 +106,11 @@ unnamed k d e = λ h. absurd (none-some k (sym h ∙ unknown-unnamed k d (ap is_
 
 -- ---- operators whose arguments end, or are kept
 
-pub decided : {o : Operator} {n : ℕ} {a c : Code} (h : ℕ) (d : Code) (b : Bool) (xs : List Tree) → looks_at_results o ≡ true → Pushed (End o n) a c → n ≡ length xs
+pub decided : {o : Operator} {n : ℕ} {a c : Code} (h : ℕ) (d : Code) (b : Bool) (xs : List Tree) →
+    looks_at_results o ≡ true → Pushed (End o n) a c → n ≡ length xs
     → CompileAll b (λ rs. Decides o h rs c d) (tree_items xs) → CompileAll b (λ rs. Adds h (apply o (rules_of rs)) a d) (tree_items xs)
-decided h d b xs looks p same x = all-made-into (tree_items xs) b x (λ rs e y. added-decided looks p y (same ∙ sym (rules_from-length xs rs e)))
+decided h d b xs looks p same x =
+    all-made-into (tree_items xs) b x (λ rs e y. added-decided looks p y (same ∙ sym (rules_from-length xs rs e)))
 
 pub joined_all : {n : ℕ} {a c : Code} (h : ℕ) (d : Code) (b : Bool) (xs : List Tree) → Pushed (Join n) a c → n ≡ length xs
     → CompileAll b (λ rs. Keeps h rs c d) (tree_items xs) → CompileAll b (λ rs. Adds h (apply Cat (rules_of rs)) a d) (tree_items xs)
@@ -140,7 +148,8 @@ stops-either o (inl e) = ap stops e
 stops-either o (inr e) = ap stops e
 
 pub strict-either : (o : Operator)
-    → (o ≡ SemVer) ⊎ ((u : UnaryOperator) × (o ≡ Unary u)) ⊎ ((d : BinaryOperator) × (o ≡ Binary d)) ⊎ ((k : ChainOperator) × (o ≡ Chain k)) → is_strict o ≡ true
+    → (o ≡ SemVer) ⊎ ((u : UnaryOperator) × (o ≡ Unary u)) ⊎ ((d : BinaryOperator) × (o ≡ Binary d)) ⊎
+    ((k : ChainOperator) × (o ≡ Chain k)) → is_strict o ≡ true
 strict-either o (inl e) = ap is_strict e
 strict-either o (inr (inl (u, e))) = ap is_strict e
 strict-either o (inr (inr (inl (u, e)))) = ap is_strict e

@@ -1,5 +1,6 @@
 -- Rules without an operator: they are right, and give the datum that they are written as.
-use Rattle.std.proofs.Common.{◌≡◌, ℤ, List, [], ◌∷◌, Bool, true, false, Option, Some, None, option_map, refl, sym, ap, ap₂, ◌∙◌, if◌then◌else◌}
+use Rattle.std.proofs.Common.{◌≡◌, ℤ, List, [], ◌∷◌, Bool, true, false, Option, Some, None, option_map, refl, sym, ap}
+use Rattle.std.proofs.Common.{ap₂, ◌∙◌, if◌then◌else◌}
 use Rattle.serde_json.specs.Data as json
 use Rattle.serde_json.specs.Find.{as_i64}
 use Rattle.fp_operators.specs.Data.{Data, null, boolean, whole, text, list, object, Items, no_items, item}
@@ -91,4 +92,5 @@ rules_from-literals (json.item d ds) h =
 
 pub rule_of-literals : (ds : json.Items) → all_literal ds ≡ true → rule_of (json.array ds) ≡ Some (constant (data_of (json.array ds)))
 rule_of-literals ds h =
-    ap (option_map (λ rs. tree.list (rules_of rs))) (rules_from-literals ds h) ∙ ap (λ rs. Some (tree.list rs)) (rules_of-listed (items_from ds))
+    ap (option_map (λ rs. tree.list (rules_of rs))) (rules_from-literals ds h) ∙
+    ap (λ rs. Some (tree.list rs)) (rules_of-listed (items_from ds))

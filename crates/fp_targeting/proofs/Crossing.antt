@@ -1,5 +1,6 @@
 -- Rules may cross threads.
-use denote.Param.Send.{IsSend, IsSync, sendable, view_send, view_sync, recorded_send, recorded_sync, struct_send, struct_sync, enum_send, enum_sync}
+use denote.Param.Send.{IsSend, IsSync, sendable, view_send, view_sync, recorded_send, recorded_sync, struct_send}
+use denote.Param.Send.{struct_sync, enum_send, enum_sync}
 use denote.Struct.Declared.{shape}
 use denote.Enum.Declared as enums
 use Rattle.std.proofs.Crossing.{crosses, Box-send, Box-sync, Vec-send, Vec-sync}
@@ -38,22 +39,29 @@ datum_row_shared : IsSync datum.the_row
 datum_row_shared = search (sendable, datum_shared) depth 10
 
 share_sent : IsSend share.the_row
-share_sent = recorded_send _ _ _ (share.the_type).to_one (struct_send (shape share.the_type) (datum_sent, (search (sendable, crosses) depth 20, tt)))
+share_sent = recorded_send _ _ _ (share.the_type).to_one
+    (struct_send (shape share.the_type) (datum_sent, (search (sendable, crosses) depth 20, tt)))
 
 share_shared : IsSync share.the_row
-share_shared = recorded_sync _ _ _ (share.the_type).to_one (struct_sync (shape share.the_type) (datum_shared, (search (sendable, crosses) depth 20, tt)))
+share_shared = recorded_sync _ _ _ (share.the_type).to_one
+    (struct_sync (shape share.the_type) (datum_shared, (search (sendable, crosses) depth 20, tt)))
 
 pairs_sent : IsSend pairs.the_row
 pairs_sent = recorded_send _ _ _ (pairs.the_type).to_one (struct_send (shape pairs.the_type) (Vec-send _ share_sent, (search sendable, tt)))
 
 table_sent : IsSend table.the_row
-table_sent = view_send _ _ _ _ _ (recorded_send _ _ _ (table_inside.the_type).to_one (struct_send (shape table_inside.the_type) (Box-send _ pairs_sent, tt)))
+table_sent = view_send _ _ _ _ _
+    (recorded_send _ _ _ (table_inside.the_type).to_one
+    (struct_send (shape table_inside.the_type) (Box-send _ pairs_sent, tt)))
 
 pairs_shared : IsSync pairs.the_row
-pairs_shared = recorded_sync _ _ _ (pairs.the_type).to_one (struct_sync (shape pairs.the_type) (Vec-sync _ share_shared, (search sendable, tt)))
+pairs_shared = recorded_sync _ _ _ (pairs.the_type).to_one
+    (struct_sync (shape pairs.the_type) (Vec-sync _ share_shared, (search sendable, tt)))
 
 table_shared : IsSync table.the_row
-table_shared = view_sync _ _ _ _ _ (recorded_sync _ _ _ (table_inside.the_type).to_one (struct_sync (shape table_inside.the_type) (Box-sync _ pairs_shared, tt)))
+table_shared = view_sync _ _ _ _ _
+    (recorded_sync _ _ _ (table_inside.the_type).to_one
+    (struct_sync (shape table_inside.the_type) (Box-sync _ pairs_shared, tt)))
 
 number_sent : IsSend (denote.Plain.UInt mir.Syntax.w32)
 number_sent = search sendable
@@ -84,7 +92,8 @@ code_sent : IsSend (code.the_field).row
 code_sent = struct_send (shape code.the_type) (Vec-send _ step_sent, (Vec-send _ datum_row_sent, (search sendable, tt)))
 
 pub rule_sent : IsSend rule.the_row
-rule_sent = view_send _ _ _ _ _ (recorded_send _ _ _ (rule_inside.the_type).to_one (struct_send (shape rule_inside.the_type) (code_sent, tt)))
+rule_sent = view_send _ _ _ _ _
+    (recorded_send _ _ _ (rule_inside.the_type).to_one (struct_send (shape rule_inside.the_type) (code_sent, tt)))
 
 number_shared : IsSync (denote.Plain.UInt mir.Syntax.w32)
 number_shared = search sendable
@@ -115,4 +124,5 @@ code_shared : IsSync (code.the_field).row
 code_shared = struct_sync (shape code.the_type) (Vec-sync _ step_shared, (Vec-sync _ datum_row_shared, (search sendable, tt)))
 
 pub rule_shared : IsSync rule.the_row
-rule_shared = view_sync _ _ _ _ _ (recorded_sync _ _ _ (rule_inside.the_type).to_one (struct_sync (shape rule_inside.the_type) (code_shared, tt)))
+rule_shared = view_sync _ _ _ _ _
+    (recorded_sync _ _ _ (rule_inside.the_type).to_one (struct_sync (shape rule_inside.the_type) (code_shared, tt)))

@@ -1,5 +1,6 @@
 -- Code of operators that don't look at all their arguments: what is added for the arguments.
-use Rattle.std.proofs.Common.{◌≡◌, ◌≤◌, ◌-◌, ℕ, List, [], ◌∷◌, length, Bool, true, false, Option, Some, None, option_and_then, refl, ap, ◌∙◌, arith, if◌then◌else◌}
+use Rattle.std.proofs.Common.{◌≡◌, ◌≤◌, ◌-◌, ℕ, List, [], ◌∷◌, length, Bool, true, false, Option, Some, None}
+use Rattle.std.proofs.Common.{option_and_then, refl, ap, ◌∙◌, arith, if◌then◌else◌}
 use Rattle.fp_operators.specs.Data.{Data, null}
 use Rattle.fp_operators.specs.Path.{found_or, named_by}
 use Rattle.fp_operators.specs.Truth.{truth}
@@ -21,7 +22,8 @@ use Rattle.fp_targeting.proofs.Frugal.{pushed-frugal, first-none, others-none, f
 use Rattle.fp_targeting.proofs.Emitting.{grows-trans, grows-skip, pushed-has, pushed-few, pushed-grows, pushed-run, pushed-read, all-last}
 use Rattle.fp_targeting.proofs.OneResult.{either_way}
 
-value-results : (o : Operator) (root : Data) (rs : Rules) (ds : List Data) → looks_at_results o ≡ true → value_of_operator o root ds ≡ value_at o root rs ds
+value-results : (o : Operator) (root : Data) (rs : Rules) (ds : List Data) → looks_at_results o ≡ true →
+    value_of_operator o root ds ≡ value_at o root rs ds
 value-results If root rs ds h = refl
 value-results And root rs ds h = refl
 value-results Or root rs ds h = refl
@@ -34,7 +36,8 @@ value-results (Binary o) root rs ds h = refl
 value-results (Chain o) root rs ds h = refl
 
 -- an operator whose arguments end
-pub added-decided : {o : Operator} {h n : ℕ} {rs : List Rule} {a b d : Code} → looks_at_results o ≡ true → Pushed (End o n) a b → Decides o h rs b d → n ≡ length rs
+pub added-decided : {o : Operator} {h n : ℕ} {rs : List Rule} {a b d : Code} → looks_at_results o ≡ true →
+    Pushed (End o n) a b → Decides o h rs b d → n ≡ length rs
     → Adds h (tree.apply o (rules_of rs)) a d
 added-decided {o = o} {n = n} {rs = rs} {a = a} looks p x same = record {
   grows = grows-trans (pushed-grows p) x.grows;
@@ -42,7 +45,8 @@ added-decided {o = o} {n = n} {rs = rs} {a = a} looks p x same = record {
   runs = λ env e root v s l.
       x.runs env e root v s l ∙ pushed-run p env root (value_of_operator o root (meanings root (rules_of rs))) s
       ∙ ap (λ w. run env root (in_order a) 0 w s) (value-results o root (rules_of rs) (meanings root (rules_of rs)) looks);
-  reads = λ env e t. x.reads env e t ∙ pushed-read p env (onto rs t) ∙ ap (read env (in_order a)) (all-last (λ qs. tree.apply o (rules_of qs)) n rs t same);
+  reads = λ env e t. x.reads env e t ∙ pushed-read p env (onto rs t) ∙
+      ap (read env (in_order a)) (all-last (λ qs. tree.apply o (rules_of qs)) n rs t same);
   frugal = λ none deep f. x.frugal none deep (pushed-frugal p refl f);
 }
 
@@ -52,7 +56,8 @@ and-last : {h : ℕ} {r : Rule} {a b : Code} → Adds h r a b → Decides And h 
 and-last {r = r} {a = a} x = record {
   grows = x.grows;
   few = omega (arith, x.few);
-  runs = λ env e root v s l. x.runs env e root v s l ∙ ap (λ w. run env root (in_order a) 0 w s) (either_way (truth (meaning root r)) (meaning root r));
+  runs = λ env e root v s l. x.runs env e root v s l ∙
+      ap (λ w. run env root (in_order a) 0 w s) (either_way (truth (meaning root r)) (meaning root r));
   reads = x.reads;
   frugal = λ none deep f. x.frugal (first-none r no_rules none) (first-deep _ And r no_rules deep) f;
 }
@@ -61,7 +66,8 @@ or-last : {h : ℕ} {r : Rule} {a b : Code} → Adds h r a b → Decides Or h (r
 or-last {r = r} {a = a} x = record {
   grows = x.grows;
   few = omega (arith, x.few);
-  runs = λ env e root v s l. x.runs env e root v s l ∙ ap (λ w. run env root (in_order a) 0 w s) (either_way (truth (meaning root r)) (meaning root r));
+  runs = λ env e root v s l. x.runs env e root v s l ∙
+      ap (λ w. run env root (in_order a) 0 w s) (either_way (truth (meaning root r)) (meaning root r));
   reads = x.reads;
   frugal = λ none deep f. x.frugal (first-none r no_rules none) (first-deep _ Or r no_rules deep) f;
 }
@@ -87,7 +93,8 @@ and-more {n = n} {r = r} {q = q} {rs = rs} {a = a} {b = b} x p skips y = record 
       let ec = y.grows.within env e in
       y.reads env e t ∙ pushed-read p env (r ∷ t) ∙ x.reads env (pushed-has p env ec) (r ∷ t);
   frugal = λ none deep f. let qs = rules_of (q ∷ rs) in
-      y.frugal (first-none r qs none) (first-deep _ And r qs deep) (pushed-frugal p refl (x.frugal (others-none r qs none) (others-deep _ And r qs deep) f));
+      y.frugal (first-none r qs none) (first-deep _ And r qs deep)
+      (pushed-frugal p refl (x.frugal (others-none r qs none) (others-deep _ And r qs deep) f));
 }
 
 or-more : {h n : ℕ} {r q : Rule} {rs : List Rule} {a b c d : Code} → Decides Or h (q ∷ rs) a b → Pushed (SkipIfTrue n) b c
@@ -105,7 +112,8 @@ or-more {n = n} {r = r} {q = q} {rs = rs} {a = a} {b = b} x p skips y = record {
       let ec = y.grows.within env e in
       y.reads env e t ∙ pushed-read p env (r ∷ t) ∙ x.reads env (pushed-has p env ec) (r ∷ t);
   frugal = λ none deep f. let qs = rules_of (q ∷ rs) in
-      y.frugal (first-none r qs none) (first-deep _ Or r qs deep) (pushed-frugal p refl (x.frugal (others-none r qs none) (others-deep _ Or r qs deep) f));
+      y.frugal (first-none r qs none) (first-deep _ Or r qs deep)
+      (pushed-frugal p refl (x.frugal (others-none r qs none) (others-deep _ Or r qs deep) f));
 }
 
 -- ---- operators that stop
@@ -122,7 +130,8 @@ last-decides (Unary o) e x = absurd (cc)
 last-decides (Binary o) e x = absurd (cc)
 last-decides (Chain o) e x = absurd (cc)
 
-more_decides : {h n : ℕ} {r q : Rule} {rs : List Rule} {a b c d : Code} (o : Operator) → stops o ≡ true → Decides o h (q ∷ rs) a b → Pushed (skip_past o n) b c
+more_decides : {h n : ℕ} {r q : Rule} {rs : List Rule} {a b c d : Code} (o : Operator) → stops o ≡ true →
+    Decides o h (q ∷ rs) a b → Pushed (skip_past o n) b c
     → n ≡ length b.steps.items - length a.steps.items → Adds h r c d → Decides o h (r ∷ q ∷ rs) a d
 more_decides If e x p skips y = absurd (cc)
 more_decides And e x p skips y = and-more x p skips y
@@ -135,7 +144,8 @@ more_decides (Unary o) e x p skips y = absurd (cc)
 more_decides (Binary o) e x p skips y = absurd (cc)
 more_decides (Chain o) e x p skips y = absurd (cc)
 
-pub more-decides : {h n : ℕ} {r : Rule} {a b c d : Code} (o : Operator) (rs : List Rule) → stops o ≡ true → 1 ≤ length rs → Decides o h rs a b → Pushed (skip_past o n) b c
+pub more-decides : {h n : ℕ} {r : Rule} {a b c d : Code} (o : Operator) (rs : List Rule) → stops o ≡ true →
+    1 ≤ length rs → Decides o h rs a b → Pushed (skip_past o n) b c
     → n ≡ length b.steps.items - length a.steps.items → Adds h r c d → Decides o h (r ∷ rs) a d
 more-decides o [] e any x p skips y = absurd (omega (arith, any))
 more-decides o (q ∷ rs) e any x p skips y = more_decides o e x p skips y
@@ -152,7 +162,14 @@ if-none p = record {
 }
 
 pub if-last : {h : ℕ} {r : Rule} {a b : Code} → Adds h r a b → Decides If h (r ∷ []) a b
-if-last {r = r} x = record { grows = x.grows; few = omega (arith, x.few); runs = x.runs; reads = x.reads; frugal = λ none deep f. x.frugal (first-none r no_rules none) (first-deep _ If r no_rules deep) f }
+if-last {r = r} x = record {
+  grows = x.grows;
+  few = omega (arith, x.few);
+  runs = x.runs;
+  reads = x.reads;
+  frugal =
+      λ none deep f. x.frugal (first-none r no_rules none) (first-deep _ If r no_rules deep) f;
+}
 
 pub if-more : {h n k : ℕ} {c r : Rule} {rs : List Rule} {a b d f g i : Code} → Decides If h rs a b → Pushed (Skip n) b d
     → n ≡ length b.steps.items - length a.steps.items → Adds h r d f → Pushed (SkipIfFalse k) f g
@@ -188,7 +205,8 @@ if-more {n = n} {k = k} {c = c} {r = r} {rs = rs} {a = a} {f = f} x p ends y q s
 -- ---- `var`
 
 module _ (env : Env) (root : Data) (cs ds : List Step) (s : List Data) (n : ℕ) where
-  found-run : (o : Option Data) (x : Data) → run env root cs 0 null s ≡ run env root ds 0 x s → ((d : Data) → run env root cs n d s ≡ run env root ds 0 d s)
+  found-run : (o : Option Data) (x : Data) → run env root cs 0 null s ≡ run env root ds 0 x s →
+      ((d : Data) → run env root cs n d s ≡ run env root ds 0 d s)
       → option_and_then (λ t. run env root cs t.0 t.1 t.2) (found_at n s o) ≡ run env root ds 0 (found_or x o) s
   found-run None x none some = none
   found-run (Some d) x none some = some d
@@ -216,7 +234,8 @@ found-alone {p = p} {a = a} x = record {
 }
 
 -- a path, and what stands in where it names nothing
-pub found-default : {h n : ℕ} {p q : Rule} {a b d : Code} → Adds h q a b → n ≡ length b.steps.items - length a.steps.items → Finds n h p b d → Decides Var h (p ∷ q ∷ []) a d
+pub found-default : {h n : ℕ} {p q : Rule} {a b d : Code} → Adds h q a b →
+    n ≡ length b.steps.items - length a.steps.items → Finds n h p b d → Decides Var h (p ∷ q ∷ []) a d
 found-default {n = n} {p = p} {q = q} {a = a} {b = b} x skips y = record {
   grows = grows-trans x.grows y.grows;
   few = omega (arith, x.few, y.few);
@@ -229,5 +248,6 @@ found-default {n = n} {p = p} {q = q} {a = a} {b = b} x skips y = record {
   frugal = λ none deep f.
       let qs = rule q no_rules in
       let default = first-none q no_rules (others-none p qs none) in
-      y.frugal (first-none p qs none) (first-deep _ Var p qs deep) (x.frugal default (first-deep _ Var q no_rules (others-deep _ Var p qs deep)) f);
+      y.frugal (first-none p qs none) (first-deep _ Var p qs deep)
+      (x.frugal default (first-deep _ Var q no_rules (others-deep _ Var p qs deep)) f);
 }

@@ -1,5 +1,6 @@
 -- Code put together: what is added for a rule's parts makes the code of the rule.
-use Rattle.std.proofs.Common.{◌≡◌, ◌≤◌, ◌+◌, ◌-◌, ℕ, List, [], ◌∷◌, ◌++◌, length, map, Bool, true, false, Option, Some, None, option_and_then, nat_lt, refl, sym, ap, ◌∙◌, subst, arith, if◌then◌else◌}
+use Rattle.std.proofs.Common.{◌≡◌, ◌≤◌, ◌+◌, ◌-◌, ℕ, List, [], ◌∷◌, ◌++◌, length, map, Bool, true, false, Option, Some}
+use Rattle.std.proofs.Common.{None, option_and_then, nat_lt, refl, sym, ap, ◌∙◌, subst, arith, if◌then◌else◌}
 use Rattle.std.proofs.lemmas.Bool.{le-leb}
 use Rattle.std.proofs.lemmas.List.{append_assoc, append-nil, length-map}
 use Rattle.serde_json.specs.Data as json
@@ -48,7 +49,8 @@ grows-trans {a = a} g h = record {
 pub grows-itself : (a : Code) → Grows a a
 grows-itself a = record { more = []; steps = sym (append-nil a.steps.items); within = λ env e. e }
 
-pub grows-skip : {a b : Code} → Grows a b → (n : ℕ) → n ≡ length b.steps.items - length a.steps.items → (env : Env) (root v : Data) (s : List Data)
+pub grows-skip : {a b : Code} → Grows a b → (n : ℕ) → n ≡ length b.steps.items - length a.steps.items →
+    (env : Env) (root v : Data) (s : List Data)
     → run env root (in_order b) n v s ≡ run env root (in_order a) 0 v s
 grows-skip {a = a} {b = b} g n e env root v s =
     let l = ap length g.steps in
@@ -114,12 +116,17 @@ pub record Stays (old new : Code) : Type 0 where
   pub frugal : IsFrugal old → IsFrugal new
 
 -- whether an operand was made or not
-pub stays : (x : Option Operand) {a b : Code} {d : json.Data} → ((o : Operand) → x ≡ Some o → IsCompiled (λ r. IsOperand o r a b) d) → (x ≡ None → b ≡ a) → Stays a b
-stays None {a = a} some none = subst (Stays a) (sym (none refl)) (record { grows = grows-itself a; few = omega arith; order = refl; frugal = λ f. f })
-stays (Some o) some none = let i = (some o refl).made in record { grows = i.grows; few = i.few; order = operand-order i; frugal = λ f. operand-frugal i f }
+pub stays : (x : Option Operand) {a b : Code} {d : json.Data} →
+    ((o : Operand) → x ≡ Some o → IsCompiled (λ r. IsOperand o r a b) d) → (x ≡ None → b ≡ a) → Stays a b
+stays None {a = a} some none =
+    subst (Stays a) (sym (none refl))
+    (record { grows = grows-itself a; few = omega arith; order = refl; frugal = λ f. f })
+stays (Some o) some none = let i = (some o refl).made in
+    record { grows = i.grows; few = i.few; order = operand-order i; frugal = λ f. operand-frugal i f }
 
 -- behind two operands that were looked for
-pub adds-later : {h : ℕ} {o : Operator} {rs : List Rule} {a b c d : Code} → Stays a b → Stays b c → AddsAlone h o rs c d → Adds h (tree.apply o (rules_of rs)) a d
+pub adds-later : {h : ℕ} {o : Operator} {rs : List Rule} {a b c d : Code} → Stays a b → Stays b c →
+    AddsAlone h o rs c d → Adds h (tree.apply o (rules_of rs)) a d
 adds-later {o = o} {rs = rs} y z k = let r = tree.apply o (rules_of rs) in let x = k.adds in record {
   grows = grows-trans y.grows (grows-trans z.grows x.grows);
   few = omega (arith, y.few, z.few, k.alone);
@@ -164,21 +171,24 @@ module _ {a b : Code} {c : Step} {m : ℕ} (k : Raised c m a b) where
 pub raised-run : {a b : Code} {m : ℕ} (k : Raised Keep m a b) (env : Env) → Has env b → (root v : Data) (s : List Data) → m ≡ length s + 1
     → run env root (in_order b) 0 v s ≡ run env root (in_order a) 0 null (v ∷ s)
 raised-run {a = a} k env e root v s l =
-    ap (λ cs. run env root cs 0 v s) (raised-order k) ∙ keep_if (nat_lt (length s) env.room) env root null v (in_order a) s (raised-place k env e s l)
+    ap (λ cs. run env root cs 0 v s) (raised-order k) ∙
+    keep_if (nat_lt (length s) env.room) env root null v (in_order a) s (raised-place k env e s l)
 
 -- where nothing was done, what is kept begins there
 pub raised-there : {c : Step} {m : ℕ} {a b d : Code} → b ≡ a → Raised c m b d → Raised c m a d
 raised-there {c = c} {m = m} {d = d} e k = subst (λ z. Raised c m z d) e k
 
 -- what an operand is, is kept
-pub kept-operand : {h m : ℕ} {o : Operand} {r : Rule} {a b d : Code} → m ≡ h + 1 → IsOperand o r a b → Raised (KeepOf o) m b d → KeepsOne h r a d
+pub kept-operand : {h m : ℕ} {o : Operand} {r : Rule} {a b d : Code} → m ≡ h + 1 → IsOperand o r a b →
+    Raised (KeepOf o) m b d → KeepsOne h r a d
 kept-operand {o = o} {r = r} {a = a} {b = b} up i k = record {
   grows = grows-trans i.grows (raised-grows k);
   few = omega (arith, i.few, raised-few k, one-place r);
   runs = λ env e root v s l. (
     left_by o v,
     ap (λ cs. run env root cs 0 v s) (raised-order k)
-        ∙ keep_if (nat_lt (length s) env.room) env root (left_by o v) (look env root v o) (in_order b) s (raised-place k env e s (omega (arith, up, l)))
+        ∙ keep_if (nat_lt (length s) env.room) env root (left_by o v) (look env root v o) (in_order b) s
+        (raised-place k env e s (omega (arith, up, l)))
         ∙ ap (λ cs. run env root cs 0 (left_by o v) (look env root v o ∷ s)) (operand-order i)
         ∙ ap (λ w. run env root (in_order a) 0 (left_by o v) (w ∷ s)) (i.looks env (raised-has k env e) root v),
   );
@@ -218,21 +228,26 @@ length-meanings_of : (root : Data) (rs : List Rule) → length (meanings root (r
 length-meanings_of root rs = length-meanings root (rules_of rs) ∙ count_of-rules_of rs
 
 pub all-last : (f : List Rule → Rule) (n : ℕ) (rs t : List Rule) → n ≡ length rs → with_last f n (onto rs t) ≡ f rs ∷ t
-all-last f n rs t e = ap (λ (p : List Rule × List Rule). f p.0 ∷ p.1) (ap (λ i. off i (onto rs t) []) e ∙ off-onto rs t ∙ ap (λ xs. (xs, t)) (append-nil rs))
+all-last f n rs t e = ap (λ (p : List Rule × List Rule). f p.0 ∷ p.1)
+    (ap (λ i. off i (onto rs t) []) e ∙ off-onto rs t ∙ ap (λ xs. (xs, t)) (append-nil rs))
 
-pub added-join : {h n : ℕ} {rs : List Rule} {a b d : Code} → Pushed (Join n) a b → Keeps h rs b d → n ≡ length rs → Adds h (tree.apply Cat (rules_of rs)) a d
+pub added-join : {h n : ℕ} {rs : List Rule} {a b d : Code} → Pushed (Join n) a b → Keeps h rs b d → n ≡ length rs →
+    Adds h (tree.apply Cat (rules_of rs)) a d
 added-join {n = n} {rs = rs} {a = a} p k same = record {
   grows = grows-trans (pushed-grows p) k.grows;
   few = omega (arith, pushed-few p, k.few);
   runs = λ env e root v s l.
       let z = k.runs env e root v s l in
       z.1 ∙ pushed-run p env root z.0 (onto (meanings root (rules_of rs)) s)
-      ∙ ap (option_and_then (λ t. run env root (in_order a) t.0 t.1 t.2)) (of_all concatenation n (meanings root (rules_of rs)) s (same ∙ sym (length-meanings_of root rs)));
-  reads = λ env e t. k.reads env e t ∙ pushed-read p env (onto rs t) ∙ ap (read env (in_order a)) (all-last (λ qs. tree.apply Cat (rules_of qs)) n rs t same);
+      ∙ ap (option_and_then (λ t. run env root (in_order a) t.0 t.1 t.2))
+      (of_all concatenation n (meanings root (rules_of rs)) s (same ∙ sym (length-meanings_of root rs)));
+  reads = λ env e t. k.reads env e t ∙ pushed-read p env (onto rs t) ∙
+      ap (read env (in_order a)) (all-last (λ qs. tree.apply Cat (rules_of qs)) n rs t same);
   frugal = λ none deep f. absurd (cc);
 }
 
-pub added-collect : {h n : ℕ} {rs : List Rule} {a b d : Code} → Pushed (Collect n) a b → Keeps h rs b d → n ≡ length rs → are_literals (rules_of rs) ≡ false
+pub added-collect : {h n : ℕ} {rs : List Rule} {a b d : Code} → Pushed (Collect n) a b → Keeps h rs b d →
+    n ≡ length rs → are_literals (rules_of rs) ≡ false
     → Adds h (tree.list (rules_of rs)) a d
 added-collect {n = n} {rs = rs} {a = a} p k same other = record {
   grows = grows-trans (pushed-grows p) k.grows;
@@ -240,8 +255,10 @@ added-collect {n = n} {rs = rs} {a = a} p k same other = record {
   runs = λ env e root v s l.
       let z = k.runs env e root v s l in
       z.1 ∙ pushed-run p env root z.0 (onto (meanings root (rules_of rs)) s)
-      ∙ ap (option_and_then (λ t. run env root (in_order a) t.0 t.1 t.2)) (of_all list_of n (meanings root (rules_of rs)) s (same ∙ sym (length-meanings_of root rs)));
-  reads = λ env e t. k.reads env e t ∙ pushed-read p env (onto rs t) ∙ ap (read env (in_order a)) (all-last (λ qs. tree.list (rules_of qs)) n rs t same);
+      ∙ ap (option_and_then (λ t. run env root (in_order a) t.0 t.1 t.2))
+      (of_all list_of n (meanings root (rules_of rs)) s (same ∙ sym (length-meanings_of root rs)));
+  reads = λ env e t. k.reads env e t ∙ pushed-read p env (onto rs t) ∙
+      ap (read env (in_order a)) (all-last (λ qs. tree.list (rules_of qs)) n rs t same);
   frugal = λ none deep f. absurd (true-false (not-false (are_literals (rules_of rs)) none) other);
 }
 

@@ -1,5 +1,6 @@
 -- Code that asks for no memory, where the rule needs none.
-use Rattle.std.proofs.Common.{◌≡◌, ◌<◌, ◌≤◌, ◌+◌, ℕ, zero, suc, List, [], ◌∷◌, ◌++◌, length, get_or, Bool, true, false, not, ◌||◌, Result, Ok, Err, IfErr, refl, ap, ◌∙◌, arith}
+use Rattle.std.proofs.Common.{◌≡◌, ◌<◌, ◌≤◌, ◌+◌, ℕ, zero, suc, List, [], ◌∷◌, ◌++◌, length, get_or, Bool, true, false}
+use Rattle.std.proofs.Common.{not, ◌||◌, Result, Ok, Err, IfErr, refl, ap, ◌∙◌, arith}
 use Rattle.fp_targeting.specs.Emits.{Pushed, Raised, IsOperand}
 use Rattle.fp_targeting.specs.Frugal.{asks, any_asks, is_sem_ver, IsFrugal}
 use Rattle.fp_targeting.specs.Memory.{needs_memory, any_needs, itself_needs}
@@ -60,7 +61,8 @@ pub operand-frugal : {o : Operand} {r : Rule} {a b : Code} → IsOperand o r a b
 operand-frugal x f = as-frugal x.steps x.room f
 
 -- where an instruction asks, the rule needs memory
-pub asked : (needs : Bool) {a : Code} → (needs ≡ false → IsFrugal a) → (n : ℕ) (c : Step) → n < length a.steps.items → c ≡ get_or a.steps.items n c → asks c ≡ true → needs ≡ true
+pub asked : (needs : Bool) {a : Code} → (needs ≡ false → IsFrugal a) → (n : ℕ) (c : Step) →
+    n < length a.steps.items → c ≡ get_or a.steps.items n c → asks c ≡ true → needs ≡ true
 asked true f n c within is asking = refl
 asked false {a = a} f n c within is asking = absurd (true-false asking (asks-none a.steps.items n c (f refl).steps within is))
 
@@ -94,11 +96,13 @@ strict-asks (Chain o) h none = refl
 
 -- ---- places for what is kept
 
-pub first-deep : (h : ℕ) (o : Operator) (r : Rule) (rs : Rules) → h + nesting (apply o (rule r rs)) ≤ DEEPEST_RULE → h + nesting r ≤ DEEPEST_RULE
+pub first-deep : (h : ℕ) (o : Operator) (r : Rule) (rs : Rules) → h + nesting (apply o (rule r rs)) ≤ DEEPEST_RULE →
+    h + nesting r ≤ DEEPEST_RULE
 first-deep h o r no_rules deep = omega (arith, deep)
 first-deep h o r (rule q rs) deep = omega (arith, deep)
 
-pub others-deep : (h : ℕ) (o : Operator) (r : Rule) (rs : Rules) → h + nesting (apply o (rule r rs)) ≤ DEEPEST_RULE → h + nesting (apply o rs) ≤ DEEPEST_RULE
+pub others-deep : (h : ℕ) (o : Operator) (r : Rule) (rs : Rules) → h + nesting (apply o (rule r rs)) ≤ DEEPEST_RULE →
+    h + nesting (apply o rs) ≤ DEEPEST_RULE
 others-deep h o r no_rules deep = omega (arith, deep)
 others-deep h o r (rule q no_rules) deep = omega (arith, deep)
 others-deep h o r (rule q (rule u rs)) deep = omega (arith, deep)

@@ -1,5 +1,7 @@
 -- What no instruction is needed for: constants, and paths that are known.
-use Rattle.std.proofs.Common.{◌≡◌, ◌≢◌, ◌<◌, ◌^◌, ℕ, ℤ, List, [], ◌∷◌, ◌++◌, length, map, get_or, Bool, true, false, not, codes, Option, Some, None, option_and_then, refl, sym, ap, ◌∙◌, subst, arith, if◌then◌else◌}
+use Rattle.std.proofs.Common.{◌≡◌, ◌≢◌, ◌<◌, ◌^◌, ℕ, ℤ, List, [], ◌∷◌, ◌++◌, length, map, get_or, Bool, true, false}
+use Rattle.std.proofs.Common.{not, codes, Option, Some, None, option_and_then, refl, sym, ap, ◌∙◌, subst, arith}
+use Rattle.std.proofs.Common.{if◌then◌else◌}
 use Rattle.std.proofs.Math.Seq.{get_or-append_seam}
 use Rattle.std.proofs.lemmas.List.{append_assoc, append-nil, length-map, length-append, map-append, get_or_append_left}
 use Rattle.std.specs.Prelude.{bytes_eq}
@@ -125,7 +127,8 @@ operand-constant {d = d} x = record {
 }
 
 -- what a known path names
-pub operand-variable : {n : ℕ} {p : List ℕ} {a b : Code} → IsPlaced n (text p) a b → IsOperand (Variable n) (tree.apply Var (rule (tree.literal (text p)) no_rules)) a b
+pub operand-variable : {n : ℕ} {p : List ℕ} {a b : Code} → IsPlaced n (text p) a b →
+    IsOperand (Variable n) (tree.apply Var (rule (tree.literal (text p)) no_rules)) a b
 operand-variable x = record {
   grows = x.grows;
   steps = x.steps;
@@ -135,13 +138,15 @@ operand-variable x = record {
   reads = λ env h t. ap (λ d. (tree.apply Var (rule (tree.literal (text (text_bytes d))) no_rules), t)) (x.is env h);
 }
 
-pub finds-known : {n skip h : ℕ} {p : List ℕ} {a b d : Code} → IsPlaced n (text p) a b → Pushed (FindVariable n skip) b d → Finds skip h (tree.literal (text p)) a d
+pub finds-known : {n skip h : ℕ} {p : List ℕ} {a b d : Code} → IsPlaced n (text p) a b →
+    Pushed (FindVariable n skip) b d → Finds skip h (tree.literal (text p)) a d
 finds-known {n = n} {skip = skip} {p = p} {a = a} x f = record {
   grows = grows-trans x.grows (pushed-grows f);
   few = omega (arith, x.few, pushed-few f);
   runs = λ env e root v s _.
       pushed-run f env root v s ∙ ap (λ cs. run env root (FindVariable n skip ∷ cs) 0 v s) (ap (λ xs. onto xs.items []) x.steps)
-      ∙ ap (λ g. option_and_then (λ (t : Turn). run env root (in_order a) t.0 t.1 t.2) (found_at skip s (at_text (text_bytes g) root))) (x.is env (pushed-has f env e));
+      ∙ ap (λ g. option_and_then (λ (t : Turn). run env root (in_order a) t.0 t.1 t.2)
+      (found_at skip s (at_text (text_bytes g) root))) (x.is env (pushed-has f env e));
   reads = λ env e t.
       pushed-read f env t ∙ ap (λ cs. read env cs (reads env (FindVariable n skip) t)) (ap (λ xs. onto xs.items []) x.steps)
       ∙ ap (λ g. read env (in_order a) (tree.literal (text (text_bytes g)) ∷ t)) (x.is env (pushed-has f env e));
@@ -166,7 +171,8 @@ added-whole h p = record {
   frugal = λ none deep f. pushed-frugal p refl f;
 }
 
-pub compiled-number : (d : json.Data) (z : ℤ) {a b : Code} → is_plain d ≡ true → whole_in (data_of d) ≡ Some z → Pushed (LoadWhole z) a b → (h : ℕ)
+pub compiled-number : (d : json.Data) (z : ℤ) {a b : Code} → is_plain d ≡ true → whole_in (data_of d) ≡ Some z →
+    Pushed (LoadWhole z) a b → (h : ℕ)
     → IsCompiled (λ r. Adds h r a b) d
 compiled-number d z {a = a} {b = b} plain e p h = record {
   rule = constant (data_of d);
@@ -178,11 +184,14 @@ compiled-number d z {a = a} {b = b} plain e p h = record {
 -- ---- arguments
 
 -- a text alone
-pub only-text : (ts : List Tree) (t : Tree) (s : List ℕ) → length ts ≡ 1 → t ≡ get_or ts 0 t → as_str (tree_view t) ≡ Some s → tree_items ts ≡ json.item (json.string s) json.no_items
+pub only-text : (ts : List Tree) (t : Tree) (s : List ℕ) → length ts ≡ 1 → t ≡ get_or ts 0 t →
+    as_str (tree_view t) ≡ Some s → tree_items ts ≡ json.item (json.string s) json.no_items
 only-text ts t s l is e = ap tree_items (last-item ts 0 t l is) ∙ ap (λ d. json.item d json.no_items) (written (tree_view t) s e)
 
-pub compiled-text : {Made : List Rule → Type 0} (ds : json.Items) (s : List ℕ) → ds ≡ json.item (json.string s) json.no_items → Made (tree.literal (text s) ∷ []) → AreCompiled Made ds
-compiled-text ds s e made = record { rules = tree.literal (text s) ∷ []; are_rules = ap rules_from e; known = ap items_unknown e; made = made }
+pub compiled-text : {Made : List Rule → Type 0} (ds : json.Items) (s : List ℕ) →
+    ds ≡ json.item (json.string s) json.no_items → Made (tree.literal (text s) ∷ []) → AreCompiled Made ds
+compiled-text ds s e made = record
+    { rules = tree.literal (text s) ∷ []; are_rules = ap rules_from e; known = ap items_unknown e; made = made }
 
 -- ---- an operator's object
 

@@ -28,13 +28,15 @@ compiled-any i ts within x =
 module _ (i : ℕ) (ts : List Tree) (t : Tree) (within : i < length ts) (is : t ≡ get_or ts i t) where
   pub no-rules-at : NoRule (tree_view t) → NoRules (tree_items ts)
   no-rules-at n =
-      no-rules-drop i ts (subst (λ xs. NoRules (tree_items xs)) (sym (drop-here ts i t within is)) (no-first (tree_view t) (tree_items (drop (i + 1) ts)) n))
+      no-rules-drop i ts (subst (λ xs. NoRules (tree_items xs)) (sym (drop-here ts i t within is))
+      (no-first (tree_view t) (tree_items (drop (i + 1) ts)) n))
 
   module _ (j : ℕ) (up : j ≡ i + 1) where
     at_next : t ∷ drop j ts ≡ drop i ts
     at_next = ap (λ k. t ∷ drop k ts) up ∙ sym (drop-here ts i t within is)
 
-    pub compiled-more : {M : Rule → Type 0} {N O : List Rule → Type 0} (x : IsCompiled M (tree_view t)) (y : AreCompiled N (tree_items (drop j ts))) → O (x.rule ∷ y.rules)
+    pub compiled-more : {M : Rule → Type 0} {N O : List Rule → Type 0} (x : IsCompiled M (tree_view t))
+        (y : AreCompiled N (tree_items (drop j ts))) → O (x.rule ∷ y.rules)
         → AreCompiled O (tree_items (drop i ts))
     compiled-more {O = O} x y m = subst (λ xs. AreCompiled O (tree_items xs)) at_next (both-compiled x y m)
 

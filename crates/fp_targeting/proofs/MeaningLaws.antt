@@ -6,17 +6,20 @@ use Rattle.fp_targeting.specs.Rule.{Rule, Rules, apply, no_rules, rule}
 use Rattle.fp_targeting.specs.Operators.{result_of}
 use Rattle.fp_targeting.specs.Means as is
 use Rattle.fp_targeting.specs.Means.{Means, AllMean}
-use Rattle.fp_targeting.specs.Laws.{TruthIsOfTheResult, NotTwiceIsTruth, DataUnnamedAreUnused, looks_at_nothing, names_nothing, all_name_nothing}
+use Rattle.fp_targeting.specs.Laws.{TruthIsOfTheResult, NotTwiceIsTruth, DataUnnamedAreUnused, looks_at_nothing}
+use Rattle.fp_targeting.specs.Laws.{names_nothing, all_name_nothing}
 use Rattle.fp_targeting.specs.declared.operator.Operator.{Operator}
 use Rattle.fp_targeting.specs.declared.operator.Operator.TheVariants.{Var, Unary}
 use Rattle.fp_targeting.specs.declared.operator.UnaryOperator.{UnaryOperator}
 use Rattle.fp_targeting.proofs.OneResult.{both}
 
 -- an operator of one argument looks at that argument's result
-unary_of : {o : UnaryOperator} {r : Rule} {d x : Data} → Means (apply (Unary o) (rule r no_rules)) d x → (y : Data) × Means r d y × (result_of (Unary o) d (y ∷ []) ≡ Some x)
+unary_of : {o : UnaryOperator} {r : Rule} {d x : Data} → Means (apply (Unary o) (rule r no_rules)) d x → (y : Data) ×
+    Means r d y × (result_of (Unary o) d (y ∷ []) ≡ Some x)
 unary_of (is.operator_means (is.next_means {x = y} m is.none_mean) e) = (y, m, e)
 
-unary_means : {o : UnaryOperator} {r : Rule} {d x y : Data} → Means r d y → result_of (Unary o) d (y ∷ []) ≡ Some x → Means (apply (Unary o) (rule r no_rules)) d x
+unary_means : {o : UnaryOperator} {r : Rule} {d x y : Data} → Means r d y → result_of (Unary o) d (y ∷ []) ≡ Some x →
+    Means (apply (Unary o) (rule r no_rules)) d x
 unary_means m e = is.operator_means (is.next_means m is.none_mean) e
 
 pub truth_of_result : TruthIsOfTheResult
@@ -63,19 +66,24 @@ mutual
       let parts = both (names_nothing c) (all_name_nothing (rule r rs)) h in
       is.if_false (Means-anywhere e m parts.0) t (Means-anywhere e n (both (names_nothing r) (all_name_nothing rs) parts.1).1)
   Means-anywhere e (is.and_last {r = r} m) h = let parts = both (names_nothing r) true h in is.and_last (Means-anywhere e m parts.0)
-  Means-anywhere e (is.and_false {r = r} {rs = rs} m t) h = is.and_false (Means-anywhere e m (both (names_nothing r) (all_name_nothing rs) h).0) t
+  Means-anywhere e (is.and_false {r = r} {rs = rs} m t) h =
+      is.and_false (Means-anywhere e m (both (names_nothing r) (all_name_nothing rs) h).0) t
   Means-anywhere e (is.and_true {r = r} {s = s} {rs = rs} m t n) h =
-      let parts = both (names_nothing r) (all_name_nothing (rule s rs)) h in is.and_true (Means-anywhere e m parts.0) t (Means-anywhere e n parts.1)
+      let parts = both (names_nothing r) (all_name_nothing (rule s rs)) h in
+      is.and_true (Means-anywhere e m parts.0) t (Means-anywhere e n parts.1)
   Means-anywhere e (is.or_last {r = r} m) h = let parts = both (names_nothing r) true h in is.or_last (Means-anywhere e m parts.0)
-  Means-anywhere e (is.or_true {r = r} {rs = rs} m t) h = is.or_true (Means-anywhere e m (both (names_nothing r) (all_name_nothing rs) h).0) t
+  Means-anywhere e (is.or_true {r = r} {rs = rs} m t) h =
+      is.or_true (Means-anywhere e m (both (names_nothing r) (all_name_nothing rs) h).0) t
   Means-anywhere e (is.or_false {r = r} {s = s} {rs = rs} m t n) h =
-      let parts = both (names_nothing r) (all_name_nothing (rule s rs)) h in is.or_false (Means-anywhere e m parts.0) t (Means-anywhere e n parts.1)
+      let parts = both (names_nothing r) (all_name_nothing (rule s rs)) h in
+      is.or_false (Means-anywhere e m parts.0) t (Means-anywhere e n parts.1)
   Means-anywhere e (is.fractional_means ms) h = absurd (cc)
 
   AllMean-anywhere : {rs : Rules} {d : Data} {xs : List Data} (e : Data) → AllMean rs d xs → all_name_nothing rs ≡ true → AllMean rs e xs
   AllMean-anywhere e is.none_mean h = is.none_mean
   AllMean-anywhere e (is.next_means {r = r} {rs = rs} m ms) h =
-      let parts = both (names_nothing r) (all_name_nothing rs) h in is.next_means (Means-anywhere e m parts.0) (AllMean-anywhere e ms parts.1)
+      let parts = both (names_nothing r) (all_name_nothing rs) h in
+      is.next_means (Means-anywhere e m parts.0) (AllMean-anywhere e ms parts.1)
 
 pub unnamed_unused : DataUnnamedAreUnused
 unnamed_unused r d e x h m = Means-anywhere e m h

@@ -1,5 +1,6 @@
 -- A member that is put where it stands already.
-use Rattle.std.proofs.Common.{◌≡◌, ℕ, Bool, true, false, cond, List, [], ◌∷◌, String, Global, Some, Ordering, Less, Equal, Greater, string_bytes, nat_cmp, refl, sym, ap, ◌∙◌}
+use Rattle.std.proofs.Common.{◌≡◌, ℕ, Bool, true, false, cond, List, [], ◌∷◌, String, Global, Some, Ordering, Less}
+use Rattle.std.proofs.Common.{Equal, Greater, string_bytes, nat_cmp, refl, sym, ap, ◌∙◌}
 use mathlib.Core.Bool.{true≢false}
 use Rattle.std.specs.BTreeMap.{is_at}
 use Rattle.std.specs.Cmp.Lexicographic.{slice_cmp}
@@ -32,7 +33,10 @@ is_none (member k d ms) = false
 
 is_none-put : (n : List ℕ) (d : Data) (ms : Members) → is_none (put n d ms) ≡ false
 is_none-put n d no_members = refl
-is_none-put n d (member l e ms) = elim (slice_cmp nat_cmp n l) as (λ o. is_none (match_ordering o (member n d (member l e ms)) (member l d ms) (member l e (put n d ms))) ≡ false) [ Less ↦ refl | Equal ↦ refl | Greater ↦ refl ]
+is_none-put n d (member l e ms) =
+    elim (slice_cmp nat_cmp n l) as
+    (λ o. is_none (match_ordering o (member n d (member l e ms)) (member l d ms) (member l e (put n d ms))) ≡ false)
+    [ Less ↦ refl | Equal ↦ refl | Greater ↦ refl ]
 
 module _ (n : List ℕ) where
   abbrev at : String Global → Bool
@@ -43,10 +47,12 @@ module _ (n : List ℕ) where
 
   -- d stands under n, over ms, and is found there and replaced
   abbrev pub IsPut : List Entry → Data → Members → Type 0
-  IsPut es d ms = (x : Datum) × (lookup at es ≡ Some x) × (view x ≡ d) × ((v : Datum) → members_view (set_value at es v) ≡ put n (view v) ms)
+  IsPut es d ms = (x : Datum) × (lookup at es ≡ Some x) × (view x ≡ d) ×
+      ((v : Datum) → members_view (set_value at es v) ≡ put n (view v) ms)
 
   module _ (e : Entry) (es : List Entry) (d : Data) where
-    found : (k : List ℕ) (rest ms : Members) → at e.0 ≡ true → members_view (e ∷ es) ≡ member k d rest → ((x : Data) → put n x ms ≡ member k x rest) → IsPut (e ∷ es) d ms
+    found : (k : List ℕ) (rest ms : Members) → at e.0 ≡ true → members_view (e ∷ es) ≡ member k d rest →
+        ((x : Data) → put n x ms ≡ member k x rest) → IsPut (e ∷ es) d ms
     found k rest ms here h puts = (
       e.1,
       ap (λ (b : Bool). cond b (Some e.1) (lookup at es)) here,
@@ -57,8 +63,10 @@ module _ (n : List ℕ) where
           ∙ sym (puts (view v)),
     )
 
-    by_order : (l : List ℕ) (y : Data) (ms : Members) → (members_view es ≡ put n d ms → IsPut es d ms) → (o : Ordering) → slice_cmp nat_cmp n l ≡ o
-        → members_view (e ∷ es) ≡ match_ordering o (member n d (member l y ms)) (member l d ms) (member l y (put n d ms)) → IsPut (e ∷ es) d (member l y ms)
+    by_order : (l : List ℕ) (y : Data) (ms : Members) → (members_view es ≡ put n d ms → IsPut es d ms) →
+        (o : Ordering) → slice_cmp nat_cmp n l ≡ o
+        → members_view (e ∷ es) ≡ match_ordering o (member n d (member l y ms)) (member l d ms)
+        (member l y (put n d ms)) → IsPut (e ∷ es) d (member l y ms)
     by_order l y ms later Less p h =
         found n (member l y ms) (member l y ms) (at_name e.0 n Equal (ap first_name h) (tied_itself nat_list_cmp_total n)) h
         (λ x. ap (λ (o : Ordering). match_ordering o (member n x (member l y ms)) (member l x ms) (member l y (put n x ms))) p)
@@ -75,10 +83,13 @@ module _ (n : List ℕ) where
               ∙ ap (λ (m : List ℕ). member m (view e.1) (members_view (set_value at es v))) (ap first_name h)
               ∙ ap (λ (x : Data). member l x (members_view (set_value at es v))) (ap first_data h)
               ∙ ap (member l y) (behind.3 v)
-              ∙ sym (ap (λ (o : Ordering). match_ordering o (member n (view v) (member l y ms)) (member l (view v) ms) (member l y (put n (view v) ms))) p),
+              ∙ sym (ap (λ (o : Ordering). match_ordering o (member n (view v) (member l y ms))
+              (member l (view v) ms) (member l y (put n (view v) ms))) p),
         )
 
   pub is_put : (es : List Entry) (d : Data) (ms : Members) → members_view es ≡ put n d ms → IsPut es d ms
   is_put [] d ms h = absurd (true≢false (ap is_none h ∙ is_none-put n d ms))
-  is_put (e ∷ es) d no_members h = found e es d n no_members no_members (at_name e.0 n Equal (ap first_name h) (tied_itself nat_list_cmp_total n)) h (λ x. refl)
+  is_put (e ∷ es) d no_members h =
+      found e es d n no_members no_members (at_name e.0 n Equal (ap first_name h) (tied_itself nat_list_cmp_total n))
+      h (λ x. refl)
   is_put (e ∷ es) d (member l y ms) h = by_order e es d l y ms (is_put es d ms) (slice_cmp nat_cmp n l) refl h

@@ -1,5 +1,7 @@
 -- Code that reads no moment gives the same at any two.
-use Rattle.std.proofs.Common.{◌≡◌, ◌≢◌, ◌<◌, ◌==◌, ℕ, zero, suc, List, [], ◌∷◌, ◌++◌, length, get_or, Bool, true, false, not, ◌&&◌, ◌||◌, Option, Some, None, refl, sym, ap, ◌∙◌, subst, ne_eqb, Ordering, is_eq, Less, Equal, Greater}
+use Rattle.std.proofs.Common.{◌≡◌, ◌≢◌, ◌<◌, ◌==◌, ℕ, zero, suc, List, [], ◌∷◌, ◌++◌, length, get_or, Bool, true, false}
+use Rattle.std.proofs.Common.{not, ◌&&◌, ◌||◌, Option, Some, None, refl, sym, ap, ◌∙◌, subst, ne_eqb, Ordering, is_eq}
+use Rattle.std.proofs.Common.{Less, Equal, Greater}
 use Rattle.std.specs.List.{All as Every}
 use Rattle.std.proofs.lemmas.List.Splits.{slice_split_at, slice_split_none}
 use Rattle.std.proofs.lemmas.List.Elements.{All-from_get_or}
@@ -21,7 +23,10 @@ use Rattle.fp_targeting.specs.Split.{own_key, flag_key, targeting_key}
 use Rattle.fp_targeting.specs.declared.code.Operand.{Operand}
 use Rattle.fp_targeting.specs.declared.code.Operand.TheVariants.{Constant, Variable, All, AtHand}
 use Rattle.fp_targeting.specs.declared.code.Step.{Step}
-use Rattle.fp_targeting.specs.declared.code.Step.TheVariants.{Load, LoadNull, LoadWhole, Keep, KeepOf, Skip, SkipIfFalse, SkipIfTrue, Find, FindVariable, One, Two, Three, Second, Third, Join, Collect, Split, SplitByOwnKey, Wrap, End}
+use Rattle.fp_targeting.specs.declared.code.Step.TheVariants.{Load, LoadNull, LoadWhole, Keep, KeepOf, Skip}
+use Rattle.fp_targeting.specs.declared.code.Step.TheVariants.{SkipIfFalse, SkipIfTrue, Find, FindVariable, One, Two}
+use Rattle.fp_targeting.specs.declared.code.Step.TheVariants.{Three, Second, Third, Join, Collect, Split, SplitByOwnKey}
+use Rattle.fp_targeting.specs.declared.code.Step.TheVariants.{Wrap, End}
 use Rattle.fp_targeting.specs.Moment.{IsTimeless, is_of_the_moment, parts_read, path_reads, operand_reads, step_reads, any_reads}
 
 neither : (a b : Bool) → (a || b) ≡ false → (a ≡ false) × (b ≡ false)
@@ -42,13 +47,15 @@ member_at-put : (name : List ℕ) (x : Data) (ms : Members) → member_at name (
 member_at-put name x no_members = rw (itself name) refl
 member_at-put name x (member l e ms) = at (slice_cmp nat_cmp name l) refl (member_at-put name x ms)
   where
-    at : (o : Ordering) → slice_cmp nat_cmp name l ≡ o → member_at name (put name x ms) ≡ Some x → member_at name (put name x (member l e ms)) ≡ Some x
+    at : (o : Ordering) → slice_cmp nat_cmp name l ≡ o → member_at name (put name x ms) ≡ Some x →
+        member_at name (put name x (member l e ms)) ≡ Some x
     at Less h there = rw (h, itself name) refl
     at Equal h there = rw (h, same_name name l Equal h) refl
     at Greater h there = rw (h, same_name name l Greater h) there
 
 -- what is put under a name isn't seen under another
-member_at-others : (name k : List ℕ) (x y : Data) (ms : Members) → bytes_eq k name ≡ false → member_at k (put name x ms) ≡ member_at k (put name y ms)
+member_at-others : (name k : List ℕ) (x y : Data) (ms : Members) → bytes_eq k name ≡ false →
+    member_at k (put name x ms) ≡ member_at k (put name y ms)
 member_at-others name k x y no_members other = rw other refl
 member_at-others name k x y (member l e ms) other = at (slice_cmp nat_cmp name l) refl (member_at-others name k x y ms other)
   where
@@ -86,7 +93,11 @@ module _ (key : List ℕ) (now later : ℕ) (ms : Members) where
       at true is =
           let name : p ≡ codes "$flagd" = (bytes_eq-Decides p (codes "$flagd")).0 is in
           let below : is_of_the_moment ps ≡ false = ap (λ b. b && is_of_the_moment ps) (sym is) ∙ h in
-          rw (name, member_at-put (codes "$flagd") (flag_data key now) ms, member_at-put (codes "$flagd") (flag_data key later) ms) (at_flag ps below)
+          rw (
+            name,
+            member_at-put (codes "$flagd") (flag_data key now) ms,
+            member_at-put (codes "$flagd") (flag_data key later) ms,
+          ) (at_flag ps below)
       at false is = ap (option_and_then (follow ps)) (member_at-others (codes "$flagd") p (flag_data key now) (flag_data key later) ms is)
 
   at_text-alike : (path : List ℕ) → path_reads path ≡ false → at_text path (with_flag now) ≡ at_text path (with_flag later)
@@ -101,7 +112,8 @@ module _ (key : List ℕ) (now later : ℕ) (ms : Members) where
         member_at-others (codes "$flagd") (codes "targetingKey") (flag_data key now) (flag_data key later) ms refl,
       ) refl
 
-with-alike : (key : List ℕ) (now later : ℕ) (d : Data) → Alike (with_member (codes "$flagd") (flag_data key now) d) (with_member (codes "$flagd") (flag_data key later) d)
+with-alike : (key : List ℕ) (now later : ℕ) (d : Data) →
+    Alike (with_member (codes "$flagd") (flag_data key now) d) (with_member (codes "$flagd") (flag_data key later) d)
 with-alike key now later (object ms) = record { paths = at_text-alike key now later ms; key = own_key-alike key now later ms }
 with-alike key now later d = record { paths = λ path h. refl; key = refl }
 
@@ -166,7 +178,9 @@ code-timeless code sound h context key now later =
     let none = any-onto (env_of code) code.steps.items [] h refl in
     let one = rule_data context key now in
     let other = rule_data context key later in
-    some_is (sym (sound.gives one) ∙ (run-alike (env_of code) one other (with-alike key now later (data_of context)) (in_order code) 0 null [] none ∙ sound.gives other))
+    some_is (sym (sound.gives one) ∙
+    (run-alike (env_of code) one other (with-alike key now later (data_of context)) (in_order code) 0 null []
+    none ∙ sound.gives other))
 
 -- ---- paths
 

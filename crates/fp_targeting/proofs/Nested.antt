@@ -51,7 +51,8 @@ within-listed n k q f r h =
 -- an only argument
 only_in : (n : ℕ) (o : Option Rule) (rs : List Rule) → Within n o → one_more o (Some []) ≡ Some rs → nesting_in (rules_of rs) ≤ n
 only_in n None rs f h = absurd (cc)
-only_in n (Some r) rs f h = let e : r ∷ [] ≡ rs = cc in let same = ap (λ ss. nesting_in (rules_of ss)) e in let x = f r refl in omega (arith, same, x)
+only_in n (Some r) rs f h = let e : r ∷ [] ≡ rs = cc in let same = ap (λ ss. nesting_in (rules_of ss)) e in
+    let x = f r refl in omega (arith, same, x)
 
 within-only : (n : ℕ) (k : List ℕ) (o : Option Rule) → Within n o → Within (1 + n) (operator_rule k (one_more o (Some [])))
 within-only n k o f r h =
@@ -67,17 +68,23 @@ mutual
   rule_of-nesting (json.string s) r h = within-literal r h
   rule_of-nesting (json.array ds) r h = let x = within-list (rules_from ds) r h in omega (arith, x)
   rule_of-nesting (json.object json.no_members) r h = let x = within-literal r h in omega (arith, x)
-  rule_of-nesting (json.object (json.member k json.null json.no_members)) r h = let x = within-only 0 k (rule_of json.null) (λ q e. rule_of-nesting json.null q e) r h in omega (arith, x)
-  rule_of-nesting (json.object (json.member k (json.boolean b) json.no_members)) r h = let x = within-only 0 k (rule_of (json.boolean b)) (λ q e. rule_of-nesting (json.boolean b) q e) r h in omega (arith, x)
-  rule_of-nesting (json.object (json.member k (json.number n) json.no_members)) r h = let x = within-only 0 k (rule_of (json.number n)) (λ q e. rule_of-nesting (json.number n) q e) r h in omega (arith, x)
-  rule_of-nesting (json.object (json.member k (json.string s) json.no_members)) r h = let x = within-only 0 k (rule_of (json.string s)) (λ q e. rule_of-nesting (json.string s) q e) r h in omega (arith, x)
+  rule_of-nesting (json.object (json.member k json.null json.no_members)) r h = let x =
+      within-only 0 k (rule_of json.null) (λ q e. rule_of-nesting json.null q e) r h in omega (arith, x)
+  rule_of-nesting (json.object (json.member k (json.boolean b) json.no_members)) r h = let x =
+      within-only 0 k (rule_of (json.boolean b)) (λ q e. rule_of-nesting (json.boolean b) q e) r h in omega (arith, x)
+  rule_of-nesting (json.object (json.member k (json.number n) json.no_members)) r h = let x =
+      within-only 0 k (rule_of (json.number n)) (λ q e. rule_of-nesting (json.number n) q e) r h in omega (arith, x)
+  rule_of-nesting (json.object (json.member k (json.string s) json.no_members)) r h = let x =
+      within-only 0 k (rule_of (json.string s)) (λ q e. rule_of-nesting (json.string s) q e) r h in omega (arith, x)
   rule_of-nesting (json.object (json.member k (json.array ds) json.no_members)) r h =
       let x = within-listed (items_depth ds) k (rules_from ds) (λ rs e. rules_from-nesting ds rs e) r h in omega (arith, x)
   rule_of-nesting (json.object (json.member k (json.object ms) json.no_members)) r h =
-      let x = within-only (depth (json.object ms)) k (rule_of (json.object ms)) (λ q e. rule_of-nesting (json.object ms) q e) r h in omega (arith, x)
+      let x = within-only (depth (json.object ms)) k (rule_of (json.object ms))
+      (λ q e. rule_of-nesting (json.object ms) q e) r h in omega (arith, x)
   rule_of-nesting (json.object (json.member k d (json.member l e ms))) r h = let x = within-literal r h in omega (arith, x)
 
   rules_from-nesting : (ds : json.Items) (rs : List Rule) → rules_from ds ≡ Some rs → most_nesting (rules_of rs) ≤ items_depth ds
   rules_from-nesting json.no_items rs h = within-none 0 rs h
   rules_from-nesting (json.item d ds) rs h =
-      within-more (depth d) (items_depth ds) (rule_of d) (rules_from ds) (λ q e. rule_of-nesting d q e) (λ qs e. rules_from-nesting ds qs e) rs h
+      within-more (depth d) (items_depth ds) (rule_of d) (rules_from ds) (λ q e. rule_of-nesting d q e)
+      (λ qs e. rules_from-nesting ds qs e) rs h

@@ -1,5 +1,6 @@
 -- Parts of a value: which are no rules, what was compiled of each, and lists of few of them.
-use Rattle.std.proofs.Common.{◌≡◌, ◌<◌, ◌+◌, ◌-◌, ℕ, List, [], ◌∷◌, length, drop, take, get_or, Bool, true, false, Option, Some, None, refl, sym, ap, ◌∙◌, subst, arith}
+use Rattle.std.proofs.Common.{◌≡◌, ◌<◌, ◌+◌, ◌-◌, ℕ, List, [], ◌∷◌, length, drop, take, get_or, Bool, true, false}
+use Rattle.std.proofs.Common.{Option, Some, None, refl, sym, ap, ◌∙◌, subst, arith}
 use Rattle.std.proofs.lemmas.List.{drop_all, take_rest}
 use Rattle.serde_json.specs.Data.{Data, Items, no_items, item}
 use Rattle.fp_base.specs.TreeView.{tree_view, tree_items}
@@ -44,11 +45,13 @@ all-false M ds false e x = x
 
 -- ---- what was made makes something else
 
-pub made-into : {M N : Rule → Type 0} (d : Data) (b : Bool) → Compiles b M d → ((r : Rule) → rule_of d ≡ Some r → M r → N r) → Compiles b N d
+pub made-into : {M N : Rule → Type 0} (d : Data) (b : Bool) → Compiles b M d →
+    ((r : Rule) → rule_of d ≡ Some r → M r → N r) → Compiles b N d
 made-into d true x f = record { rule = x.rule; is_rule = x.is_rule; known = x.known; made = f x.rule x.is_rule x.made }
 made-into d false x f = x
 
-pub all-made-into : {M N : List Rule → Type 0} (ds : Items) (b : Bool) → CompileAll b M ds → ((rs : List Rule) → rules_from ds ≡ Some rs → M rs → N rs) → CompileAll b N ds
+pub all-made-into : {M N : List Rule → Type 0} (ds : Items) (b : Bool) → CompileAll b M ds →
+    ((rs : List Rule) → rules_from ds ≡ Some rs → M rs → N rs) → CompileAll b N ds
 all-made-into ds true x f = record { rules = x.rules; are_rules = x.are_rules; known = x.known; made = f x.rules x.are_rules x.made }
 all-made-into ds false x f = x
 
@@ -61,7 +64,8 @@ same-items M b e x = subst (CompileAll b M) e x
 abbrev pub compiled-none : {M : List Rule → Type 0} → M [] → AreCompiled M no_items
 compiled-none m = record { rules = []; are_rules = refl; known = refl; made = m }
 
-abbrev pub both-compiled : {M : Rule → Type 0} {N O : List Rule → Type 0} {d : Data} {ds : Items} (x : IsCompiled M d) (y : AreCompiled N ds) → O (x.rule ∷ y.rules)
+abbrev pub both-compiled : {M : Rule → Type 0} {N O : List Rule → Type 0} {d : Data} {ds : Items}
+    (x : IsCompiled M d) (y : AreCompiled N ds) → O (x.rule ∷ y.rules)
     → AreCompiled O (item d ds)
 both-compiled {ds = ds} x y m = record {
   rules = x.rule ∷ y.rules;
@@ -71,19 +75,22 @@ both-compiled {ds = ds} x y m = record {
 }
 
 -- what stands behind a rule
-abbrev pub in-front : {M : Rule → Type 0} {N : List Rule → Type 0} {d : Data} {ds : Items} → IsCompiled M d → AreCompiled N ds → AreCompiled (λ rs. Unit {0}) (item d ds)
+abbrev pub in-front : {M : Rule → Type 0} {N : List Rule → Type 0} {d : Data} {ds : Items} → IsCompiled M d →
+    AreCompiled N ds → AreCompiled (λ rs. Unit {0}) (item d ds)
 in-front x y = both-compiled x y tt
 
 abbrev pub alone : {M : Rule → Type 0} {d : Data} → IsCompiled M d → AreCompiled (λ rs. Unit {0}) (item d no_items)
 alone x = in-front x (compiled-none {M = λ rs. Unit {0}} tt)
 
 -- a value in front of which rules stand, or behind which they do
-pub compile-before : (O : List Rule → Type 0) (d : Data) {N : List Rule → Type 0} {ds : Items} (b : Bool) (y : AreCompiled N ds) → Compiles b (λ r. O (r ∷ y.rules)) d
+pub compile-before : (O : List Rule → Type 0) (d : Data) {N : List Rule → Type 0} {ds : Items} (b : Bool)
+    (y : AreCompiled N ds) → Compiles b (λ r. O (r ∷ y.rules)) d
     → CompileAll b O (item d ds)
 compile-before O d true y x = both-compiled x y x.made
 compile-before O d {ds = ds} false y n = no-first d ds n
 
-pub compile-behind : (O : List Rule → Type 0) (ds : Items) {M : Rule → Type 0} {d : Data} (b : Bool) (x : IsCompiled M d) → CompileAll b (λ rs. O (x.rule ∷ rs)) ds
+pub compile-behind : (O : List Rule → Type 0) (ds : Items) {M : Rule → Type 0} {d : Data} (b : Bool)
+    (x : IsCompiled M d) → CompileAll b (λ rs. O (x.rule ∷ rs)) ds
     → CompileAll b O (item d ds)
 compile-behind O ds true x y = both-compiled x y y.made
 compile-behind O ds {d = d} false x n = no-others d ds n
@@ -93,7 +100,8 @@ compile-one O d b x = compile-before O d b (compiled-none {M = λ rs. Unit {0}} 
 
 -- ---- as many rules as values
 
-length_if : (o : Option Rule) (p : Option (List Rule)) (n : ℕ) (rs : List Rule) → ((qs : List Rule) → p ≡ Some qs → length qs ≡ n) → one_more o p ≡ Some rs → length rs ≡ 1 + n
+length_if : (o : Option Rule) (p : Option (List Rule)) (n : ℕ) (rs : List Rule) →
+    ((qs : List Rule) → p ≡ Some qs → length qs ≡ n) → one_more o p ≡ Some rs → length rs ≡ 1 + n
 length_if None p n rs h e = absurd (cc)
 length_if (Some r) None n rs h e = absurd (cc)
 length_if (Some r) (Some qs) n rs h e = let l = h qs refl in let same : r ∷ qs ≡ rs = cc in let m = ap length same in omega (arith, l, m)
@@ -119,9 +127,11 @@ parted ts t any is = drop-here ts 0 t any is ∙ ap (λ us. t ∷ us) (sym (take
 pub two-items : {A : Type 0} (ts : List A) (a b : A) → length ts ≡ 2 → a ≡ get_or ts 0 a → b ≡ get_or ts 1 b → ts ≡ a ∷ b ∷ []
 two-items ts a b l x y = drop-here ts 0 a (omega (arith, l)) x ∙ ap (λ us. a ∷ us) (last-item ts 1 b l y)
 
-pub three-items : {A : Type 0} (ts : List A) (a b c : A) → length ts ≡ 3 → a ≡ get_or ts 0 a → b ≡ get_or ts 1 b → c ≡ get_or ts 2 c → ts ≡ a ∷ b ∷ c ∷ []
+pub three-items : {A : Type 0} (ts : List A) (a b c : A) → length ts ≡ 3 → a ≡ get_or ts 0 a → b ≡ get_or ts 1 b →
+    c ≡ get_or ts 2 c → ts ≡ a ∷ b ∷ c ∷ []
 three-items ts a b c l x y z =
-    drop-here ts 0 a (omega (arith, l)) x ∙ ap (λ us. a ∷ us) (drop-here ts 1 b (omega (arith, l)) y ∙ ap (λ us. b ∷ us) (last-item ts 2 c l z))
+    drop-here ts 0 a (omega (arith, l)) x ∙
+    ap (λ us. a ∷ us) (drop-here ts 1 b (omega (arith, l)) y ∙ ap (λ us. b ∷ us) (last-item ts 2 c l z))
 
 -- what is compiled of the last item
 pub compile-last : (O : List Rule → Type 0) (ts : List Tree) (i : ℕ) (t : Tree) → length ts ≡ i + 1 → t ≡ get_or ts i t → (b : Bool)

@@ -27,10 +27,16 @@ module _ (i : ℕ) (ts : List Tree) (t : Tree) (within : i < length ts) (is : t 
   pub at-ordered : AreOrdered (tree_items ts) → IsOrdered (tree_view t)
   at-ordered o = (subst (λ us. AreOrdered (tree_items us)) (drop-here ts i t within is) (drop-ordered i ts o)).0
 
-pub two-counted : (ts : List Tree) (a b : Tree) → 2 ≤ length ts → a ≡ get_or ts 0 a → b ≡ get_or ts 1 b → count (tree_view a) + count (tree_view b) ≤ items_count (tree_items ts)
+pub two-counted : (ts : List Tree) (a b : Tree) → 2 ≤ length ts → a ≡ get_or ts 0 a → b ≡ get_or ts 1 b →
+    count (tree_view a) + count (tree_view b) ≤ items_count (tree_items ts)
 two-counted ts a b l x y = omega (arith, counted-here 0 ts a (omega (arith, l)) x, counted-here 1 ts b (omega (arith, l)) y)
 
 pub three-counted : (ts : List Tree) (a b c : Tree) → 3 ≤ length ts → a ≡ get_or ts 0 a → b ≡ get_or ts 1 b → c ≡ get_or ts 2 c
     → count (tree_view a) + count (tree_view b) + count (tree_view c) ≤ items_count (tree_items ts)
 three-counted ts a b c l x y z =
-    omega (arith, counted-here 0 ts a (omega (arith, l)) x, counted-here 1 ts b (omega (arith, l)) y, counted-here 2 ts c (omega (arith, l)) z)
+    omega (
+      arith,
+      counted-here 0 ts a (omega (arith, l)) x,
+      counted-here 1 ts b (omega (arith, l)) y,
+      counted-here 2 ts c (omega (arith, l)) z,
+    )

@@ -20,8 +20,11 @@ use Rattle.fp_targeting.specs.declared.code.Operand.TheVariants.{AtHand}
 use Rattle.fp_targeting.specs.declared.code.Step.TheVariants.{Keep, One, Two, Three, Second, Third}
 use Rattle.fp_targeting.specs.declared.operator.Operator.TheVariants.{If, And, Or, Var, Cat, SemVer, Fractional, Unary, Binary, Chain}
 use Rattle.fp_targeting.specs.Numbers.{DEEPEST_RULE}
-use Rattle.fp_targeting.proofs.Frugal.{pushed-frugal, raised-frugal, operand-frugal, itself-none, all-none, first-none, others-none, first-deep, strict-asks}
-use Rattle.fp_targeting.proofs.Emitting.{one-place, grows-trans, pushed-has, pushed-few, pushed-grows, pushed-run, pushed-read, operand-order, raised-has, raised-few, raised-grows, raised-run, raised-read}
+use Rattle.fp_targeting.proofs.Frugal.{pushed-frugal, raised-frugal, operand-frugal, itself-none, all-none, first-none}
+use Rattle.fp_targeting.proofs.Frugal.{others-none, first-deep, strict-asks}
+use Rattle.fp_targeting.proofs.Emitting.{one-place, grows-trans, pushed-has, pushed-few, pushed-grows, pushed-run}
+use Rattle.fp_targeting.proofs.Emitting.{pushed-read, operand-order, raised-has, raised-few, raised-grows, raised-run}
+use Rattle.fp_targeting.proofs.Emitting.{raised-read}
 
 -- such an operator takes no more than three
 pub few-taken : (o : Operator) (n : ℕ) → is_strict o ≡ true → takes o n ≡ true → n ≤ 3
@@ -60,7 +63,8 @@ module _ (o : Operator) (strict : is_strict o ≡ true) where
   strict-adds {rs = rs} {a = a} g few r q frugal = record {
     grows = g;
     few = few;
-    runs = λ env e root v s l. r env e root v s l ∙ ap (λ w. run env root (in_order a) 0 w s) (value-strict o root rs (meanings root rs) strict);
+    runs = λ env e root v s l. r env e root v s l ∙
+        ap (λ w. run env root (in_order a) 0 w s) (value-strict o root rs (meanings root rs) strict);
     reads = q;
     frugal = frugal;
   }
@@ -69,9 +73,11 @@ module _ (o : Operator) (strict : is_strict o ≡ true) where
   second-none r q rs none = first-none q rs (others-none r (rule q rs) (all-none o (rule r (rule q rs)) none))
 
   third-none : (r q u : Rule) (rs : Rules) → needs_memory (tree.apply o (rule r (rule q (rule u rs)))) ≡ false → needs_memory u ≡ false
-  third-none r q u rs none = first-none u rs (others-none q (rule u rs) (others-none r (rule q (rule u rs)) (all-none o (rule r (rule q (rule u rs))) none)))
+  third-none r q u rs none = first-none u rs
+      (others-none q (rule u rs) (others-none r (rule q (rule u rs)) (all-none o (rule r (rule q (rule u rs))) none)))
 
-  pub added-one : {h : ℕ} {x : Operand} {r : Rule} {a b d : Code} → IsOperand x r a b → Pushed (One o x) b d → Adds h (tree.apply o (rule r no_rules)) a d
+  pub added-one : {h : ℕ} {x : Operand} {r : Rule} {a b d : Code} → IsOperand x r a b → Pushed (One o x) b d →
+      Adds h (tree.apply o (rule r no_rules)) a d
   added-one {x = x} {a = a} i p = strict-adds (grows-trans i.grows (pushed-grows p)) (omega (arith, i.few, pushed-few p))
       (λ env e root v s _. pushed-run p env root v s ∙ ap (λ cs. run env root cs 0 (few o (look env root v x ∷ [])) s) (operand-order i)
       ∙ ap (λ w. run env root (in_order a) 0 (few o (w ∷ [])) s) (i.looks env (pushed-has p env e) root v))
@@ -79,29 +85,38 @@ module _ (o : Operator) (strict : is_strict o ≡ true) where
       ∙ ap (λ (y : Rule × List Rule). read env (in_order a) (tree.apply o (rule y.0 no_rules) ∷ y.1)) (i.reads env (pushed-has p env e) t))
       (λ none deep f. pushed-frugal p refl (operand-frugal i f))
 
-  pub added-one-computed : {h : ℕ} {r : Rule} {a b d : Code} → Pushed (One o AtHand) a b → Adds h r b d → Adds h (tree.apply o (rule r no_rules)) a d
+  pub added-one-computed : {h : ℕ} {r : Rule} {a b d : Code} → Pushed (One o AtHand) a b → Adds h r b d →
+      Adds h (tree.apply o (rule r no_rules)) a d
   added-one-computed {r = r} p x = strict-adds (grows-trans (pushed-grows p) x.grows) (omega (arith, pushed-few p, x.few))
       (λ env e root v s l. x.runs env e root v s l ∙ pushed-run p env root (meaning root r) s)
       (λ env e t. x.reads env e t ∙ pushed-read p env (r ∷ t))
-      (λ none deep f. x.frugal (first-none r no_rules (all-none o (rule r no_rules) none)) (first-deep _ o r no_rules deep) (pushed-frugal p refl f))
+      (λ none deep f. x.frugal (first-none r no_rules (all-none o (rule r no_rules) none))
+      (first-deep _ o r no_rules deep) (pushed-frugal p refl f))
 
   pub added-two : {h : ℕ} {x y : Operand} {r q : Rule} {a b c d : Code} → IsOperand x r a b → IsOperand y q b c → Pushed (Two o x y) c d
       → Adds h (tree.apply o (rule r (rule q no_rules))) a d
-  added-two {x = x} {y = y} {r = r} {q = q} {a = a} i j p = strict-adds (grows-trans i.grows (grows-trans j.grows (pushed-grows p))) (omega (arith, i.few, j.few, pushed-few p))
+  added-two {x = x} {y = y} {r = r} {q = q} {a = a} i j p =
+      strict-adds (grows-trans i.grows (grows-trans j.grows (pushed-grows p)))
+      (omega (arith, i.few, j.few, pushed-few p))
       (λ env e root v s _. let ec = pushed-has p env e in let eb = j.grows.within env ec in
-      pushed-run p env root v s ∙ ap (λ cs. run env root cs 0 (few o (look env root v x ∷ look env root v y ∷ [])) s) (operand-order j ∙ operand-order i)
+      pushed-run p env root v s ∙ ap (λ cs. run env root cs 0 (few o (look env root v x ∷ look env root v y ∷ [])) s)
+      (operand-order j ∙ operand-order i)
       ∙ ap (λ w. run env root (in_order a) 0 (few o (w ∷ look env root v y ∷ [])) s) (i.looks env eb root v)
       ∙ ap (λ w. run env root (in_order a) 0 (few o (meaning root r ∷ w ∷ [])) s) (j.looks env ec root v))
       (λ env e t. let ec = pushed-has p env e in let eb = j.grows.within env ec in
       pushed-read p env t ∙ ap (λ cs. read env cs (reads env (Two o x y) t)) (operand-order j ∙ operand-order i)
-      ∙ ap (λ (z : Rule × List Rule). let w = operand_rule env x z.1 in read env (in_order a) (tree.apply o (rule w.0 (rule z.0 no_rules)) ∷ w.1)) (j.reads env ec t)
+      ∙ ap (λ (z : Rule × List Rule). let w = operand_rule env x z.1 in
+      read env (in_order a) (tree.apply o (rule w.0 (rule z.0 no_rules)) ∷ w.1)) (j.reads env ec t)
       ∙ ap (λ (w : Rule × List Rule). read env (in_order a) (tree.apply o (rule w.0 (rule q no_rules)) ∷ w.1)) (i.reads env eb t))
       (λ none deep f. pushed-frugal p refl (operand-frugal j (operand-frugal i f)))
 
   -- the second one computed
-  pub added-two-second : {h : ℕ} {x : Operand} {r q : Rule} {a b c d : Code} → IsOperand x r a b → Pushed (Two o x AtHand) b c → Adds h q c d
+  pub added-two-second : {h : ℕ} {x : Operand} {r q : Rule} {a b c d : Code} → IsOperand x r a b →
+      Pushed (Two o x AtHand) b c → Adds h q c d
       → Adds h (tree.apply o (rule r (rule q no_rules))) a d
-  added-two-second {x = x} {r = r} {q = q} {a = a} i p k = strict-adds (grows-trans i.grows (grows-trans (pushed-grows p) k.grows)) (omega (arith, i.few, pushed-few p, k.few, one-place r))
+  added-two-second {x = x} {r = r} {q = q} {a = a} i p k =
+      strict-adds (grows-trans i.grows (grows-trans (pushed-grows p) k.grows))
+      (omega (arith, i.few, pushed-few p, k.few, one-place r))
       (λ env e root v s l. let eb = pushed-has p env (k.grows.within env e) in
       k.runs env e root v s l ∙ pushed-run p env root (meaning root q) s
       ∙ ap (λ cs. run env root cs 0 (few o (look env root (meaning root q) x ∷ meaning root q ∷ [])) s) (operand-order i)
@@ -115,7 +130,9 @@ module _ (o : Operator) (strict : is_strict o ≡ true) where
   -- the first one computed
   pub added-two-first : {h : ℕ} {y : Operand} {r q : Rule} {a b c d : Code} → IsOperand y q a b → Pushed (Two o AtHand y) b c → Adds h r c d
       → Adds h (tree.apply o (rule r (rule q no_rules))) a d
-  added-two-first {y = y} {r = r} {q = q} {a = a} j p k = strict-adds (grows-trans j.grows (grows-trans (pushed-grows p) k.grows)) (omega (arith, j.few, pushed-few p, k.few, one-place q))
+  added-two-first {y = y} {r = r} {q = q} {a = a} j p k =
+      strict-adds (grows-trans j.grows (grows-trans (pushed-grows p) k.grows))
+      (omega (arith, j.few, pushed-few p, k.few, one-place q))
       (λ env e root v s l. let eb = pushed-has p env (k.grows.within env e) in
       k.runs env e root v s l ∙ pushed-run p env root (meaning root r) s
       ∙ ap (λ cs. run env root cs 0 (few o (meaning root r ∷ look env root (meaning root r) y ∷ [])) s) (operand-order j)
@@ -123,15 +140,20 @@ module _ (o : Operator) (strict : is_strict o ≡ true) where
       (λ env e t. let eb = pushed-has p env (k.grows.within env e) in
       k.reads env e t ∙ pushed-read p env (r ∷ t)
       ∙ ap (λ cs. read env cs (reads env (Two o AtHand y) (r ∷ t))) (operand-order j)
-      ∙ ap (λ (z : Rule × List Rule). let w = operand_rule env AtHand z.1 in read env (in_order a) (tree.apply o (rule w.0 (rule z.0 no_rules)) ∷ w.1)) (j.reads env eb (r ∷ t)))
-      (λ none deep f. k.frugal (first-none r (rule q no_rules) (all-none o (rule r (rule q no_rules)) none)) (first-deep _ o r (rule q no_rules) deep) (pushed-frugal p refl (operand-frugal j f)))
+      ∙ ap (λ (z : Rule × List Rule). let w = operand_rule env AtHand z.1 in
+      read env (in_order a) (tree.apply o (rule w.0 (rule z.0 no_rules)) ∷ w.1)) (j.reads env eb (r ∷ t)))
+      (λ none deep f. k.frugal (first-none r (rule q no_rules) (all-none o (rule r (rule q no_rules)) none))
+      (first-deep _ o r (rule q no_rules) deep) (pushed-frugal p refl (operand-frugal j f)))
 
   -- the first two lent
-  pub added-three : {h : ℕ} {x y : Operand} {r q u : Rule} {a b c d f : Code} → IsOperand x r a b → IsOperand y q b c → Pushed (Three o x y) c d → Adds h u d f
+  pub added-three : {h : ℕ} {x y : Operand} {r q u : Rule} {a b c d f : Code} → IsOperand x r a b →
+      IsOperand y q b c → Pushed (Three o x y) c d → Adds h u d f
       → Adds h (tree.apply o (rule r (rule q (rule u no_rules)))) a f
   added-three {x = x} {y = y} {r = r} {q = q} {u = u} {a = a} i j p k = let order = operand-order j ∙ operand-order i in
-      strict-adds (grows-trans i.grows (grows-trans j.grows (grows-trans (pushed-grows p) k.grows))) (omega (arith, i.few, j.few, pushed-few p, k.few))
-      (λ env e root v s l. let ed = k.grows.within env e in let ec = pushed-has p env ed in let eb = j.grows.within env ec in let w = meaning root u in
+      strict-adds (grows-trans i.grows (grows-trans j.grows (grows-trans (pushed-grows p) k.grows)))
+      (omega (arith, i.few, j.few, pushed-few p, k.few))
+      (λ env e root v s l. let ed = k.grows.within env e in let ec = pushed-has p env ed in
+      let eb = j.grows.within env ec in let w = meaning root u in
       k.runs env e root v s l ∙ pushed-run p env root w s
       ∙ ap (λ cs. run env root cs 0 (few o (look env root w x ∷ look env root w y ∷ w ∷ [])) s) order
       ∙ ap (λ z. run env root (in_order a) 0 (few o (z ∷ look env root w y ∷ w ∷ [])) s) (i.looks env eb root w)
@@ -144,12 +166,16 @@ module _ (o : Operator) (strict : is_strict o ≡ true) where
       ∙ ap (λ (w : Rule × List Rule). read env (in_order a) (tree.apply o (rule w.0 (rule q (rule u no_rules))) ∷ w.1)) (i.reads env eb t))
       (λ none deep f.
       k.frugal (third-none r q u no_rules none) (omega (arith, deep))
-      (pushed-frugal p (strict-asks o strict (itself-none o (rule r (rule q (rule u no_rules))) none)) (operand-frugal j (operand-frugal i f))))
+      (pushed-frugal p (strict-asks o strict (itself-none o (rule r (rule q (rule u no_rules))) none))
+      (operand-frugal j (operand-frugal i f))))
 
   -- both computed
-  pub added-second : {h m : ℕ} {r q : Rule} {a b c d f : Code} → m ≡ h + 1 → Pushed (Second o) a b → Adds m q b c → Raised Keep m c d → Adds h r d f
+  pub added-second : {h m : ℕ} {r q : Rule} {a b c d f : Code} → m ≡ h + 1 → Pushed (Second o) a b → Adds m q b c →
+      Raised Keep m c d → Adds h r d f
       → Adds h (tree.apply o (rule r (rule q no_rules))) a f
-  added-second {r = r} {q = q} up p y k x = strict-adds (grows-trans (pushed-grows p) (grows-trans y.grows (grows-trans (raised-grows k) x.grows))) (omega (arith, pushed-few p, y.few, raised-few k, x.few))
+  added-second {r = r} {q = q} up p y k x =
+      strict-adds (grows-trans (pushed-grows p) (grows-trans y.grows (grows-trans (raised-grows k) x.grows)))
+      (omega (arith, pushed-few p, y.few, raised-few k, x.few))
       (λ env e root v s l. let ed = x.grows.within env e in let ec = raised-has k env ed in
       x.runs env e root v s l ∙ raised-run k env ed root (meaning root r) s (omega (arith, up, l))
       ∙ y.runs env ec root null (meaning root r ∷ s) (omega (arith, up, l))
@@ -158,26 +184,34 @@ module _ (o : Operator) (strict : is_strict o ≡ true) where
       x.reads env e t ∙ raised-read k env (r ∷ t) ∙ y.reads env ec (r ∷ t) ∙ pushed-read p env (q ∷ r ∷ t))
       (λ none deep f.
       let behind = y.frugal (second-none r q no_rules none) (omega (arith, up, deep)) (pushed-frugal p refl f) in
-      x.frugal (first-none r (rule q no_rules) (all-none o (rule r (rule q no_rules)) none)) (omega (arith, deep)) (raised-frugal k (omega (arith, up, deep)) behind))
+      x.frugal (first-none r (rule q no_rules) (all-none o (rule r (rule q no_rules)) none)) (omega (arith, deep))
+      (raised-frugal k (omega (arith, up, deep)) behind))
 
-  pub added-third : {h m n : ℕ} {r q u : Rule} {a b c d f g i : Code} → m ≡ h + 1 → n ≡ m + 1 → Pushed (Third o) a b → Adds n u b c → Raised Keep n c d → Adds m q d f
+  pub added-third : {h m n : ℕ} {r q u : Rule} {a b c d f g i : Code} → m ≡ h + 1 → n ≡ m + 1 →
+      Pushed (Third o) a b → Adds n u b c → Raised Keep n c d → Adds m q d f
       → Raised Keep m f g → Adds h r g i → AddsAlone h o (r ∷ q ∷ u ∷ []) a i
   added-third {r = r} {q = q} {u = u} up on p z j y k x = record {
     alone = omega (arith, pushed-few p, z.few, raised-few j, y.few, raised-few k, x.few);
-    adds = strict-adds (grows-trans (pushed-grows p) (grows-trans z.grows (grows-trans (raised-grows j) (grows-trans y.grows (grows-trans (raised-grows k) x.grows))))) (omega (arith, pushed-few p, z.few, raised-few j, y.few, raised-few k, x.few))
-        (λ env e root v s l. let eg = x.grows.within env e in let ef = raised-has k env eg in let ed = y.grows.within env ef in let ec = raised-has j env ed in
+    adds = strict-adds (grows-trans (pushed-grows p)
+        (grows-trans z.grows (grows-trans (raised-grows j)
+        (grows-trans y.grows (grows-trans (raised-grows k) x.grows)))))
+        (omega (arith, pushed-few p, z.few, raised-few j, y.few, raised-few k, x.few))
+        (λ env e root v s l. let eg = x.grows.within env e in let ef = raised-has k env eg in
+        let ed = y.grows.within env ef in let ec = raised-has j env ed in
         x.runs env e root v s l ∙ raised-run k env eg root (meaning root r) s (omega (arith, up, l))
         ∙ y.runs env ef root null (meaning root r ∷ s) (omega (arith, up, l))
         ∙ raised-run j env ed root (meaning root q) (meaning root r ∷ s) (omega (arith, up, on, l))
         ∙ z.runs env ec root null (meaning root q ∷ meaning root r ∷ s) (omega (arith, up, on, l))
         ∙ pushed-run p env root (meaning root u) (meaning root q ∷ meaning root r ∷ s))
-        (λ env e t. let eg = x.grows.within env e in let ef = raised-has k env eg in let ed = y.grows.within env ef in let ec = raised-has j env ed in
+        (λ env e t. let eg = x.grows.within env e in let ef = raised-has k env eg in
+        let ed = y.grows.within env ef in let ec = raised-has j env ed in
         x.reads env e t ∙ raised-read k env (r ∷ t) ∙ y.reads env ef (r ∷ t) ∙ raised-read j env (q ∷ r ∷ t) ∙ z.reads env ec (q ∷ r ∷ t)
         ∙ pushed-read p env (u ∷ q ∷ r ∷ t))
         (λ none deep f.
         let rs = rule q (rule u no_rules) in
         let last = z.frugal (third-none r q u no_rules none) (omega (arith, up, on, deep))
         (pushed-frugal p (strict-asks o strict (itself-none o (rule r rs) none)) f) in
-        let middle = y.frugal (second-none r q (rule u no_rules) none) (omega (arith, up, deep)) (raised-frugal j (omega (arith, up, on, deep)) last) in
+        let middle = y.frugal (second-none r q (rule u no_rules) none) (omega (arith, up, deep))
+        (raised-frugal j (omega (arith, up, on, deep)) last) in
         x.frugal (first-none r rs (all-none o (rule r rs) none)) (omega (arith, deep)) (raised-frugal k (omega (arith, up, deep)) middle));
   }

@@ -1,5 +1,7 @@
 -- The pairs of `fractional`, as they are read from JSON and as they are kept.
-use Rattle.std.proofs.Common.{◌≡◌, ◌+◌, ◌≤◌, ℕ, ℤ, pos, negsuc, List, [], ◌∷◌, ◌++◌, length, drop, String, Global, string_bytes, Bool, true, false, Option, None, Some, option_map, option_and_then, unwrap_or, refl, sym, ap, ◌∙◌, subst, arith, if◌then◌else◌}
+use Rattle.std.proofs.Common.{◌≡◌, ◌+◌, ◌≤◌, ℕ, ℤ, pos, negsuc, List, [], ◌∷◌, ◌++◌, length, drop, String, Global}
+use Rattle.std.proofs.Common.{string_bytes, Bool, true, false, Option, None, Some, option_map, option_and_then}
+use Rattle.std.proofs.Common.{unwrap_or, refl, sym, ap, ◌∙◌, subst, arith, if◌then◌else◌}
 use Rattle.std.specs.Prelude.{nat_le}
 use Rattle.std.proofs.lemmas.List.{append_assoc}
 use Rattle.serde_json.specs.Data as json
@@ -38,7 +40,8 @@ same_if false n m h = absurd (cc)
 pub same : (n m : ℕ) → Some m ≡ within_limit (Some n) → m ≡ n
 same n m h = same_if (nat_le n GREATEST_WEIGHT) n m (sym h)
 
-further_if : (a b : Bool) (n m : ℕ) → nat_le n GREATEST_WEIGHT ≡ a → nat_le (n + m) GREATEST_WEIGHT ≡ b → (if a then Some n else None) ≡ None → (if b then Some (n + m) else None) ≡ None
+further_if : (a b : Bool) (n m : ℕ) → nat_le n GREATEST_WEIGHT ≡ a → nat_le (n + m) GREATEST_WEIGHT ≡ b →
+    (if a then Some n else None) ≡ None → (if b then Some (n + m) else None) ≡ None
 further_if true b n m e f h = absurd (cc)
 further_if false true n m e f h = absurd (grind (arith, e, f))
 further_if false false n m e f h = refl
@@ -49,11 +52,14 @@ further n m h = further_if (nat_le n GREATEST_WEIGHT) (nat_le (n + m) GREATEST_W
 -- what is past the limit stays so
 past : (n : ℕ) (rs : Rules) → within_limit (Some n) ≡ None → within_limit (total_after n rs) ≡ None
 past n no_rules h = h
-past n (rule r rs) h = elim (share_of r) as (λ o. within_limit (option_and_then (λ s. total_after (n + s.1) rs) o) ≡ None) [ None ↦ refl | Some s ↦ past (n + s.1) rs (further n s.1 h) ]
+past n (rule r rs) h = elim (share_of r) as
+    (λ o. within_limit (option_and_then (λ s. total_after (n + s.1) rs) o) ≡ None)
+    [ None ↦ refl | Some s ↦ past (n + s.1) rs (further n s.1 h) ]
 
 -- ---- what scalars write
 
-weight-number : (o : Option ℤ) (w : ℕ) → option_and_then (λ z. weight_in (whole z)) o ≡ Some w → tree.literal (whole_or_null o) ≡ tree.literal (whole (pos w))
+weight-number : (o : Option ℤ) (w : ℕ) → option_and_then (λ z. weight_in (whole z)) o ≡ Some w →
+    tree.literal (whole_or_null o) ≡ tree.literal (whole (pos w))
 weight-number None w h = absurd (cc)
 weight-number (Some (pos n)) w h = ap (λ m. tree.literal (whole (pos m))) (sym (same_if (nat_le n GREATEST_WEIGHT) n w h))
 weight-number (Some (negsuc n)) w h = absurd (cc)
@@ -104,7 +110,8 @@ other_if true o rs = record { no_name = refl; no_weight = refl; no_share = refl 
 other_if false o rs = record { no_name = refl; no_weight = refl; no_share = refl }
 
 other-apply : (q : Option Operator) (arguments : Option (List Rule))
-    → IsOther (option_and_then (λ o. option_and_then (λ rs. if allows o (rules_of rs) then Some (tree.apply o (rules_of rs)) else None) arguments) q)
+    → IsOther (option_and_then (λ o. option_and_then
+    (λ rs. if allows o (rules_of rs) then Some (tree.apply o (rules_of rs)) else None) arguments) q)
 other-apply None arguments = record { no_name = refl; no_weight = refl; no_share = refl }
 other-apply (Some o) None = record { no_name = refl; no_weight = refl; no_share = refl }
 other-apply (Some o) (Some rs) = other_if (allows o (rules_of rs)) o (rules_of rs)
@@ -125,12 +132,14 @@ list-weight (Some rs) = refl
 no-name : (d : json.Data) → name_written d ≡ None → option_and_then name_of (rule_of d) ≡ None
 no-name json.null h = refl
 no-name (json.boolean b) h = refl
-no-name (json.number n) h = elim (as_i64 n) as (λ o. option_and_then name_of (Some (tree.literal (whole_or_null o))) ≡ None) [ None ↦ refl | Some z ↦ refl ]
+no-name (json.number n) h = elim (as_i64 n) as
+    (λ o. option_and_then name_of (Some (tree.literal (whole_or_null o))) ≡ None) [ None ↦ refl | Some z ↦ refl ]
 no-name (json.string t) h = absurd (cc)
 no-name (json.array ds) h = list-name (rules_from ds)
 no-name (json.object ms) h = (other-object ms).no_name
 
-no_weight_number : (o : Option ℤ) → option_and_then (λ z. weight_in (whole z)) o ≡ None → option_and_then weight_of (Some (tree.literal (whole_or_null o))) ≡ None
+no_weight_number : (o : Option ℤ) → option_and_then (λ z. weight_in (whole z)) o ≡ None →
+    option_and_then weight_of (Some (tree.literal (whole_or_null o))) ≡ None
 no_weight_number None h = refl
 no_weight_number (Some z) h = h
 
@@ -166,7 +175,8 @@ pair-alone d s h =
       share = refl;
     }
 
-pair-two : (d e : json.Data) (s : List ℕ) (w : ℕ) → name_written d ≡ Some s → weight_written e ≡ Some w → IsPair (json.array (json.item d (json.item e json.no_items))) s (Some w)
+pair-two : (d e : json.Data) (s : List ℕ) (w : ℕ) → name_written d ≡ Some s → weight_written e ≡ Some w →
+    IsPair (json.array (json.item d (json.item e json.no_items))) s (Some w)
 pair-two d e s w h g =
     let l = literal-name d s h in
     let m = literal-weight e w g in record {
@@ -199,11 +209,13 @@ unmapped : {A B : Type 0} (f : A → B) (o : Option A) → option_map f o ≡ No
 unmapped f None h = refl
 unmapped f (Some a) h = absurd (cc)
 
-one-none : (o : Option Rule) → option_and_then name_of o ≡ None → option_and_then share_of (option_map (λ rs. tree.list (rules_of rs)) (one_more o (Some []))) ≡ None
+one-none : (o : Option Rule) → option_and_then name_of o ≡ None →
+    option_and_then share_of (option_map (λ rs. tree.list (rules_of rs)) (one_more o (Some []))) ≡ None
 one-none None h = refl
 one-none (Some r) h = ap (option_map (λ s. (s, 1))) h
 
-unnamed : (o q : Option Rule) → option_and_then name_of o ≡ None → option_and_then share_of (option_map (λ rs. tree.list (rules_of rs)) (one_more o (one_more q (Some [])))) ≡ None
+unnamed : (o q : Option Rule) → option_and_then name_of o ≡ None →
+    option_and_then share_of (option_map (λ rs. tree.list (rules_of rs)) (one_more o (one_more q (Some [])))) ≡ None
 unnamed None q h = refl
 unnamed (Some r) None h = refl
 unnamed (Some r) (Some t) h = ap (option_and_then (λ s. option_map (λ w. (s, w)) (weight_of t))) h
@@ -212,26 +224,32 @@ none_of : (q : Option Data) (w : Option ℕ) → w ≡ None → option_and_then 
 none_of None w h = refl
 none_of (Some s) w h = ap (option_map (λ v. let p : Share = (s, v) in p)) h
 
-unweighed : (o q : Option Rule) → option_and_then weight_of q ≡ None → option_and_then share_of (option_map (λ rs. tree.list (rules_of rs)) (one_more o (one_more q (Some [])))) ≡ None
+unweighed : (o q : Option Rule) → option_and_then weight_of q ≡ None →
+    option_and_then share_of (option_map (λ rs. tree.list (rules_of rs)) (one_more o (one_more q (Some [])))) ≡ None
 unweighed None q h = refl
 unweighed (Some r) None h = refl
 unweighed (Some r) (Some t) h = none_of (name_of r) (weight_of t) h
 
-too_many : (o q v : Option Rule) (rest : Option (List Rule)) → option_and_then share_of (option_map (λ rs. tree.list (rules_of rs)) (one_more o (one_more q (one_more v rest)))) ≡ None
+too_many : (o q v : Option Rule) (rest : Option (List Rule)) →
+    option_and_then share_of (option_map (λ rs. tree.list (rules_of rs)) (one_more o (one_more q (one_more v rest))))
+    ≡ None
 too_many None q v rest = refl
 too_many (Some r) None v rest = refl
 too_many (Some r) (Some t) None rest = refl
 too_many (Some r) (Some t) (Some u) None = refl
 too_many (Some r) (Some t) (Some u) (Some rs) = refl
 
-no_two : (d e : json.Data) (n : Option (List ℕ)) (w : Option ℕ) → name_written d ≡ n → weight_written e ≡ w → option_and_then (λ s. option_map (λ v. let q : Written = (s, Some v) in q) w) n ≡ None → option_and_then share_of (rule_of (json.array (json.item d (json.item e json.no_items)))) ≡ None
+no_two : (d e : json.Data) (n : Option (List ℕ)) (w : Option ℕ) → name_written d ≡ n → weight_written e ≡ w →
+    option_and_then (λ s. option_map (λ v. let q : Written = (s, Some v) in q) w) n ≡ None →
+    option_and_then share_of (rule_of (json.array (json.item d (json.item e json.no_items)))) ≡ None
 no_two d e None w f g h = unnamed (rule_of d) (rule_of e) (no-name d f)
 no_two d e (Some s) None f g h = unweighed (rule_of d) (rule_of e) (no-weight e g)
 no_two d e (Some s) (Some w) f g h = absurd (cc)
 
 no-items : (ds : json.Items) → pair_of_items ds ≡ None → option_and_then share_of (rule_of (json.array ds)) ≡ None
 no-items json.no_items h = refl
-no-items (json.item d json.no_items) h = one-none (rule_of d) (no-name d (unmapped (λ (n : List ℕ). let q : Written = (n, None) in q) (name_written d) h))
+no-items (json.item d json.no_items) h =
+    one-none (rule_of d) (no-name d (unmapped (λ (n : List ℕ). let q : Written = (n, None) in q) (name_written d) h))
 no-items (json.item d (json.item e json.no_items)) h = no_two d e (name_written d) (weight_written e) refl refl h
 no-items (json.item d (json.item e (json.item f ds))) h = too_many (rule_of d) (rule_of e) (rule_of f) (rules_from ds)
 
@@ -257,12 +275,14 @@ items-no_pair (a ∷ b ∷ c ∷ ts) h = refl
 abbrev pub total_left : ℕ → Option (List Rule) → Option ℕ
 total_left sum o = option_and_then (λ rs. within_limit (total_after sum (rules_of rs))) o
 
-pub left-none : (sum : ℕ) (o : Option Rule) (rest : Option (List Rule)) → option_and_then share_of o ≡ None → total_left sum (one_more o rest) ≡ None
+pub left-none : (sum : ℕ) (o : Option Rule) (rest : Option (List Rule)) → option_and_then share_of o ≡ None →
+    total_left sum (one_more o rest) ≡ None
 left-none sum None rest h = refl
 left-none sum (Some r) None h = refl
 left-none sum (Some r) (Some rs) h = ap (λ q. within_limit (option_and_then (λ s. total_after (sum + s.1) (rules_of rs)) q)) h
 
-pub left-more : (sum : ℕ) (r : Rule) (d : Data) (w : ℕ) (rest : Option (List Rule)) → share_of r ≡ Some (d, w) → total_left sum (one_more (Some r) rest) ≡ total_left (sum + w) rest
+pub left-more : (sum : ℕ) (r : Rule) (d : Data) (w : ℕ) (rest : Option (List Rule)) → share_of r ≡ Some (d, w) →
+    total_left sum (one_more (Some r) rest) ≡ total_left (sum + w) rest
 left-more sum r d w None h = refl
 left-more sum r d w (Some rs) h = ap (λ q. within_limit (option_and_then (λ s. total_after (sum + s.1) (rules_of rs)) q)) h
 
@@ -274,12 +294,14 @@ left-past sum (Some rs) h = past sum (rules_of rs) h
 abbrev pub behind : List Rule → Option (List Rule) → Option (List Rule)
 behind done rest = option_map (λ rs. done ++ rs) rest
 
-pub behind-more : (done : List Rule) (r : Rule) (rest : Option (List Rule)) → behind (done ++ r ∷ []) rest ≡ behind done (one_more (Some r) rest)
+pub behind-more : (done : List Rule) (r : Rule) (rest : Option (List Rule)) →
+    behind (done ++ r ∷ []) rest ≡ behind done (one_more (Some r) rest)
 behind-more done r None = refl
 behind-more done r (Some rs) = ap Some (append_assoc done (r ∷ []) rs)
 
 -- a turn at a pair
-pub weight-turn : (sum : ℕ) (xs : List Tree) (i : ℕ) (x : Tree) (p : Written) → drop i xs ≡ x ∷ drop (i + 1) xs → IsPair (tree_view x) p.0 p.1
+pub weight-turn : (sum : ℕ) (xs : List Tree) (i : ℕ) (x : Tree) (p : Written) → drop i xs ≡ x ∷ drop (i + 1) xs →
+    IsPair (tree_view x) p.0 p.1
     → total_left sum (rules_from (tree_items (drop i xs))) ≡ total_left (sum + unwrap_or p.1 1) (rules_from (tree_items (drop (i + 1) xs)))
 weight-turn sum xs i x p here h =
     ap (λ ys. total_left sum (rules_from (tree_items ys))) here
@@ -292,13 +314,16 @@ known-turn xs i x p here h =
     ap (λ u. first_of u (items_unknown (tree_items (drop (i + 1) xs)))) (sym h.known)
     ∙ ap (λ ys. items_unknown (tree_items ys)) (sym here)
 
-pub read-turn : (done : List Rule) (xs : List Tree) (i : ℕ) (x : Tree) (p : Written) → drop i xs ≡ x ∷ drop (i + 1) xs → IsPair (tree_view x) p.0 p.1
-    → behind (done ++ pair_rule (text p.0) p.1 ∷ []) (rules_from (tree_items (drop (i + 1) xs))) ≡ behind done (rules_from (tree_items (drop i xs)))
+pub read-turn : (done : List Rule) (xs : List Tree) (i : ℕ) (x : Tree) (p : Written) →
+    drop i xs ≡ x ∷ drop (i + 1) xs → IsPair (tree_view x) p.0 p.1
+    → behind (done ++ pair_rule (text p.0) p.1 ∷ []) (rules_from (tree_items (drop (i + 1) xs))) ≡ behind done
+    (rules_from (tree_items (drop i xs)))
 read-turn done xs i x p here h =
     behind-more done (pair_rule (text p.0) p.1) (rules_from (tree_items (drop (i + 1) xs)))
     ∙ ap (λ o. behind done (one_more o (rules_from (tree_items (drop (i + 1) xs))))) (sym h.rule)
     ∙ ap (λ ys. behind done (rules_from (tree_items ys))) (sym here)
 
 -- what is kept of a pair is the rule that it writes
-pub share_rule-Text : (s : String Global) (name : List ℕ) (weight : Option ℕ) → string_bytes s ≡ name → share_rule (record { name = Datum.Text s; weight = weight }) ≡ pair_rule (text name) weight
+pub share_rule-Text : (s : String Global) (name : List ℕ) (weight : Option ℕ) → string_bytes s ≡ name →
+    share_rule (record { name = Datum.Text s; weight = weight }) ≡ pair_rule (text name) weight
 share_rule-Text s name weight e = ap (λ d. pair_rule d weight) (view-Text s ∙ ap text e)

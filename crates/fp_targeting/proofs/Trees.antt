@@ -1,5 +1,6 @@
 -- The rule of an object, by how many members it has.
-use Rattle.std.proofs.Common.{◌≡◌, ℕ, List, [], ◌∷◌, Vec, Global, true, false, Some, is_some, length, get_or, refl, sym, ap, ◌∙◌, arith, if◌then◌else◌, Bool, not, ◌==◌}
+use Rattle.std.proofs.Common.{◌≡◌, ℕ, List, [], ◌∷◌, Vec, Global, true, false, Some, is_some, length, get_or, refl, sym}
+use Rattle.std.proofs.Common.{ap, ◌∙◌, arith, if◌then◌else◌, Bool, not, ◌==◌}
 use Rattle.serde_json.specs.Data.{Data, null, boolean, number, string, array, object, member, no_members}
 use Rattle.fp_base.specs.TreeView.{Entry, tree_view, tree_members}
 use Rattle.fp_base.specs.declared.tree.Tree.TheVariants.{Object}
@@ -8,20 +9,23 @@ use Rattle.fp_targeting.specs.Compile.{first_unknown, operator_rule, arguments_o
 use Rattle.fp_targeting.specs.Constant.{is_literal}
 use Rattle.fp_targeting.specs.Operators.{operator_of}
 
-only-member : (ms : List Entry) (m : Entry) → length ms ≡ 1 → m ≡ get_or ms 0 m → tree_members ms ≡ member m.0.now (tree_view m.1) no_members
+only-member : (ms : List Entry) (m : Entry) → length ms ≡ 1 → m ≡ get_or ms 0 m →
+    tree_members ms ≡ member m.0.now (tree_view m.1) no_members
 only-member [] m h e = absurd (omega arith)
 only-member (x ∷ []) m h e = ap (λ y. tree_members (y ∷ [])) (sym e)
 only-member (x ∷ y ∷ ms) m h e = absurd (omega arith)
 
 -- an object of one member
-pub only-Object : (v : Vec Entry Global) (m : Entry) → length v.items ≡ 1 → m ≡ get_or v.items 0 m → tree_view (Object v) ≡ object (member m.0.now (tree_view m.1) no_members)
+pub only-Object : (v : Vec Entry Global) (m : Entry) → length v.items ≡ 1 → m ≡ get_or v.items 0 m →
+    tree_view (Object v) ≡ object (member m.0.now (tree_view m.1) no_members)
 only-Object v m h e = view-Object v ∙ ap object (only-member v.items m h e)
 
 -- a name that is no operator's, and one that is
 pub unknown-unnamed : (k : List ℕ) (d : Data) → is_some (operator_of k) ≡ false → first_unknown (object (member k d no_members)) ≡ Some k
 unknown-unnamed k d h = ap (λ b. if b then first_unknown d else Some k) h
 
-pub unknown-named : (k : List ℕ) (d : Data) → is_some (operator_of k) ≡ true → first_unknown (object (member k d no_members)) ≡ first_unknown d
+pub unknown-named : (k : List ℕ) (d : Data) → is_some (operator_of k) ≡ true →
+    first_unknown (object (member k d no_members)) ≡ first_unknown d
 unknown-named k d h = ap (λ b. if b then first_unknown d else Some k) h
 
 -- the rule of an operator's object

@@ -32,10 +32,12 @@ module _ (k key : List ℕ) (now : ℕ) (old new : Members) where
   turned json.null sets h = no_object null refl h
   turned (json.boolean b) sets h = no_object (boolean b) refl h
   turned (json.number n) sets h =
-      elim (as_i64 n) as (λ z. object old ≡ with_member (codes "$flagd") (flag_data k now) (whole_or_null z) → object new ≡ with_member (codes "$flagd") (flag_data key now) (whole_or_null z)) [
+      elim (as_i64 n) as (λ z. object old ≡ with_member (codes "$flagd") (flag_data k now) (whole_or_null z) →
+      object new ≡ with_member (codes "$flagd") (flag_data key now) (whole_or_null z)) [
         | None ↦ no_object null refl
         | Some z ↦ no_object (whole z) refl
       ] h
   turned (json.string s) sets h = no_object (text s) refl h
   turned (json.array ds) sets h = no_object (data_of (json.array ds)) refl h
-  turned (json.object js) sets h = ap object (sets k (member (codes "timestamp") (whole (pos now)) no_members) (members_from js) (ap members_in h))
+  turned (json.object js) sets h =
+      ap object (sets k (member (codes "timestamp") (whole (pos now)) no_members) (members_from js) (ap members_in h))

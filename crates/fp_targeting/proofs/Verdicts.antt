@@ -1,5 +1,6 @@
 -- What compiling answers of a value that nests within the limit.
-use Rattle.std.proofs.Common.{◌≡◌, ◌≤◌, ◌-◌, ℕ, List, Bool, true, false, ◌&&◌, Option, Some, None, is_some, Ok, Err, refl, sym, ap, ◌∙◌, if◌then◌else◌}
+use Rattle.std.proofs.Common.{◌≡◌, ◌≤◌, ◌-◌, ℕ, List, Bool, true, false, ◌&&◌, Option, Some, None, is_some, Ok, Err}
+use Rattle.std.proofs.Common.{refl, sym, ap, ◌∙◌, if◌then◌else◌}
 use Rattle.std.specs.Prelude.{nat_le}
 use Rattle.std.proofs.lemmas.Bool.{le-leb}
 use Rattle.serde_json.specs.Data.{Data, depth}
@@ -16,14 +17,16 @@ use Rattle.fp_targeting.specs.Numbers.{DEEPEST_RULE, MOST_RULE_VALUES}
 verdict-flat : (d : Data) → depth d ≤ DEEPEST_RULE → verdict d ≡ verdict_known d (first_unknown d)
 verdict-flat d flat = ap (λ b. if b then verdict_known d (first_unknown d) else Err too_deep) (le-leb (depth d) DEEPEST_RULE flat)
 
-known-rule : (d : Data) (r : Rule) (a b : Bool) → a ≡ true → b ≡ true → rule_of d ≡ Some r → (if a && b then rule_or_bad (rule_of d) else Err bad) ≡ Ok r
+known-rule : (d : Data) (r : Rule) (a b : Bool) → a ≡ true → b ≡ true → rule_of d ≡ Some r →
+    (if a && b then rule_or_bad (rule_of d) else Err bad) ≡ Ok r
 known-rule d r a b h g e = rw (h, g, e) refl
 
 covers : (b : Bool) (left : ℕ) → is_some (if b then Some left else None) ≡ true → b ≡ true
 covers true left h = refl
 covers false left h = absurd (cc)
 
-pub verdict-rule : (d : Data) (r : Rule) → depth d ≤ DEEPEST_RULE → is_some (spend MOST_RULE_VALUES (count d)) ≡ true → is_whole d ≡ true → first_unknown d ≡ None
+pub verdict-rule : (d : Data) (r : Rule) → depth d ≤ DEEPEST_RULE →
+    is_some (spend MOST_RULE_VALUES (count d)) ≡ true → is_whole d ≡ true → first_unknown d ≡ None
     → rule_of d ≡ Some r → verdict d ≡ Ok r
 verdict-rule d r flat few whole known is =
     let enough = covers (nat_le (count d) MOST_RULE_VALUES) (MOST_RULE_VALUES - count d) few in
@@ -47,5 +50,8 @@ tells BadRule P Q f h = f bad h
 tells Memory P Q f h = h
 
 -- a value that is no rule
-pub refused-none : (d : Data) (e : RuleFault) → depth d ≤ DEEPEST_RULE → NoRule d → Tells e (λ f. f ≡ unknown_or_bad (first_unknown d)) → Tells e (λ f. verdict d ≡ Err f)
-refused-none d e flat none h = tells e (λ f. f ≡ unknown_or_bad (first_unknown d)) (λ f. verdict d ≡ Err f) (λ f same. verdict-none d flat none ∙ ap Err (sym same)) h
+pub refused-none : (d : Data) (e : RuleFault) → depth d ≤ DEEPEST_RULE → NoRule d →
+    Tells e (λ f. f ≡ unknown_or_bad (first_unknown d)) → Tells e (λ f. verdict d ≡ Err f)
+refused-none d e flat none h =
+    tells e (λ f. f ≡ unknown_or_bad (first_unknown d)) (λ f. verdict d ≡ Err f)
+    (λ f same. verdict-none d flat none ∙ ap Err (sym same)) h

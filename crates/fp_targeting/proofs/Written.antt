@@ -1,5 +1,6 @@
 -- What values write: operators at arguments, literals, lists and texts.
-use Rattle.std.proofs.Common.{◌≡◌, ℕ, List, [], ◌∷◌, Bool, true, false, ◌&&◌, Option, Some, None, is_some, option_map, option_and_then, refl, sym, ap, ap₂, ◌∙◌, if◌then◌else◌}
+use Rattle.std.proofs.Common.{◌≡◌, ℕ, List, [], ◌∷◌, Bool, true, false, ◌&&◌, Option, Some, None, is_some, option_map}
+use Rattle.std.proofs.Common.{option_and_then, refl, sym, ap, ap₂, ◌∙◌, if◌then◌else◌}
 use Rattle.serde_json.specs.Data as json
 use Rattle.serde_json.specs.Find.{as_str}
 use Rattle.fp_targeting.specs.Compile.{one_more, rule_of, rules_from, arguments_of}
@@ -23,7 +24,9 @@ pub record Applied (o : Option Operator) (arguments : Option (List Rule)) (r : R
   pub is : tree.apply operator (rules_of rules) ≡ r
 
 pub applied : (o : Option Operator) (arguments : Option (List Rule)) (r : Rule)
-    → option_and_then (λ p. option_and_then (λ qs. if allows p (rules_of qs) then Some (tree.apply p (rules_of qs)) else None) arguments) o ≡ Some r → Applied o arguments r
+    → option_and_then (λ p. option_and_then
+    (λ qs. if allows p (rules_of qs) then Some (tree.apply p (rules_of qs)) else None) arguments) o ≡ Some r →
+    Applied o arguments r
 applied None arguments r h = absurd (cc)
 applied (Some p) None r h = absurd (cc)
 applied (Some p) (Some qs) r h = by_test (allows p (rules_of qs)) h where
@@ -31,7 +34,8 @@ applied (Some p) (Some qs) r h = by_test (allows p (rules_of qs)) h where
   by_test true e = record { operator = p; rules = qs; named = refl; are_rules = refl; is = cc }
   by_test false e = absurd (cc)
 
-operation : (k : List ℕ) (d : json.Data) (r : Rule) → rule_of (json.object (json.member k d json.no_members)) ≡ Some r → Applied (operator_of k) (arguments_of d) r
+operation : (k : List ℕ) (d : json.Data) (r : Rule) →
+    rule_of (json.object (json.member k d json.no_members)) ≡ Some r → Applied (operator_of k) (arguments_of d) r
 operation k d r h = applied (operator_of k) (arguments_of d) r (sym (rule_of-operator k d) ∙ h)
 
 -- ---- values that stand for themselves
@@ -39,7 +43,9 @@ operation k d r h = applied (operator_of k) (arguments_of d) r (sym (rule_of-ope
 literal_is : (f : Rule → Bool) {d : _} {r : Rule} → Some (tree.literal d) ≡ Some r → f r ≡ f (tree.literal d)
 literal_is f {d = d} {r = r} h = let same : tree.literal d ≡ r = cc in ap f (sym same)
 
-listed_is : (f : Rule → Bool) (o : Option (List Rule)) (r : Rule) → option_map (λ rs. tree.list (rules_of rs)) o ≡ Some r → (rs : List Rule) × (o ≡ Some rs) × (f r ≡ f (tree.list (rules_of rs)))
+listed_is : (f : Rule → Bool) (o : Option (List Rule)) (r : Rule) →
+    option_map (λ rs. tree.list (rules_of rs)) o ≡ Some r → (rs : List Rule) × (o ≡ Some rs) ×
+    (f r ≡ f (tree.list (rules_of rs)))
 listed_is f None r h = absurd (cc)
 listed_is f (Some rs) r h = let same : tree.list (rules_of rs) ≡ r = cc in (rs, refl, ap f (sym same))
 
@@ -57,7 +63,9 @@ and-if : (a b : Bool) → (a && b) ≡ (if a then b else false)
 and-if true b = refl
 and-if false b = refl
 
-literals_more : (o : Option Rule) (p : Option (List Rule)) (l m : Bool) (rs : List Rule) → ((r : Rule) → o ≡ Some r → is_some (literal_in r) ≡ l) → ((qs : List Rule) → p ≡ Some qs → are_literals (rules_of qs) ≡ m)
+literals_more : (o : Option Rule) (p : Option (List Rule)) (l m : Bool) (rs : List Rule) →
+    ((r : Rule) → o ≡ Some r → is_some (literal_in r) ≡ l) →
+    ((qs : List Rule) → p ≡ Some qs → are_literals (rules_of qs) ≡ m)
     → one_more o p ≡ Some rs → are_literals (rules_of rs) ≡ (if l then m else false)
 literals_more None p l m rs f g e = absurd (cc)
 literals_more (Some r) None l m rs f g e = absurd (cc)
@@ -67,7 +75,9 @@ literals_more (Some r) (Some qs) l m rs f g e =
 
 pub literals-written : (ds : json.Items) (rs : List Rule) → rules_from ds ≡ Some rs → are_literals (rules_of rs) ≡ all_literal ds
 literals-written json.no_items rs h = let same : [] ≡ rs = cc in ap (λ ss. are_literals (rules_of ss)) (sym same)
-literals-written (json.item d ds) rs h = literals_more (rule_of d) (rules_from ds) (is_literal d) (all_literal ds) rs (literal-written d) (literals-written ds) h
+literals-written (json.item d ds) rs h =
+    literals_more (rule_of d) (rules_from ds) (is_literal d) (all_literal ds) rs (literal-written d)
+    (literals-written ds) h
 
 -- a text
 pub written : (d : json.Data) (s : List ℕ) → as_str d ≡ Some s → d ≡ json.string s

@@ -27,8 +27,34 @@ module _ {D : Type 0} (disk : Ghosts D) (old : D) where
   abbrev Behind : (D → Type 0) → Result (StoreState D × Identity) (OpenFault × D) → Type 0
   Behind P r = MatchResult r (λ x. P x.0.disk) (λ e. P e.1)
 
-  pub opens : (r : Result (StoreState D × Identity) (OpenFault × D)) → (disk.honest old → Behind (λ new. disk.bytes new ≡ disk.bytes old) r) → (disk.honest old → Behind (λ new. LeavesOnly disk.moment disk.crash_states_since old new (IsOutcome (disk.unsynced old))) r) → Behind (λ new. SameHonesty disk old new) r
-      → MatchResult r (λ x. ThenReads (Sync ∷ Length ∷ []) (disk.calls old) (disk.calls x.0.disk)) (λ e. ThenSomeReads (Sync ∷ Length ∷ []) (disk.calls old) (disk.calls e.1))
-      → IfOk r (λ x. disk.faults x.0.disk ≡ disk.faults old) → IfErr r (λ e. e.0 ≡ opening.Device → disk.faults old < disk.faults e.1) → IfErr r (λ e. e.0 ≡ opening.Memory → disk.faults e.1 ≡ disk.faults old) → Opens disk old r
-  opens (Ok x) same any_moment honest called no_failure cause memory = record { same = same; any_moment = any_moment; honest = honest; called = called; no_failure = no_failure; cause = cause; memory = memory }
-  opens (Err e) same any_moment honest called no_failure cause memory = record { same = same; any_moment = any_moment; honest = honest; called = called; no_failure = no_failure; cause = cause; memory = memory }
+  pub opens : (r : Result (StoreState D × Identity) (OpenFault × D)) →
+      (disk.honest old → Behind (λ new. disk.bytes new ≡ disk.bytes old) r) →
+      (disk.honest old → Behind (λ new. LeavesOnly disk.moment disk.crash_states_since old new
+      (IsOutcome (disk.unsynced old))) r) → Behind (λ new. SameHonesty disk old new) r
+      → MatchResult r (λ x. ThenReads (Sync ∷ Length ∷ []) (disk.calls old) (disk.calls x.0.disk))
+      (λ e. ThenSomeReads (Sync ∷ Length ∷ []) (disk.calls old) (disk.calls e.1))
+      → IfOk r (λ x. disk.faults x.0.disk ≡ disk.faults old) →
+      IfErr r (λ e. e.0 ≡ opening.Device → disk.faults old < disk.faults e.1) →
+      IfErr r (λ e. e.0 ≡ opening.Memory → disk.faults e.1 ≡ disk.faults old) → Opens disk old r
+  opens (Ok x) same any_moment honest called no_failure cause memory =
+      record {
+        same = same;
+        any_moment = any_moment;
+        honest = honest;
+        called = called;
+        no_failure =
+            no_failure;
+        cause = cause;
+        memory = memory;
+      }
+  opens (Err e) same any_moment honest called no_failure cause memory =
+      record {
+        same = same;
+        any_moment = any_moment;
+        honest = honest;
+        called = called;
+        no_failure =
+            no_failure;
+        cause = cause;
+        memory = memory;
+      }

@@ -39,32 +39,44 @@ pub first_edits : (d : DeskState) (f : FrontState) → Begins f (settled_front d
 first_edits d f b =
     let rest = b.1.0 in let more = rest ++ (d.drawn ++ d.waiting) in let n = front_revision f - d.store.start.revision in
     let start = ap (λ (x : Identity). x.start.revision) b.0 in
-    let whole : log d ≡ f.edits ++ more = ap (λ (l : List Change). l ++ (d.drawn ++ d.waiting)) (sym b.1.1) ∙ append_assoc f.edits rest (d.drawn ++ d.waiting) in
+    let whole : log d ≡ f.edits ++ more = ap (λ (l : List Change). l ++ (d.drawn ++ d.waiting)) (sym b.1.1) ∙
+    append_assoc f.edits rest (d.drawn ++ d.waiting) in
     let long : length f.edits ≡ n = omega (arith, start) in
     let cut : take n (log d) ≡ f.edits = ap (λ (l : List Change). take n l) whole ∙ take_at f.edits more n long in
-    ap (λ (x : Identity). record { store = x; edits = f.edits }) b.0 ∙ ap (λ (l : List Change). record { store = d.store; edits = l }) (sym cut)
+    ap (λ (x : Identity). record { store = x; edits = f.edits }) b.0 ∙
+    ap (λ (l : List Change). record { store = d.store; edits = l }) (sym cut)
 
-pub front_is : {D : Type 0} (w : WorldState D) → Begins w.views.board (settled_front w.committer.desk) → w.views.board ≡ published_front (machine w)
+pub front_is : {D : Type 0} (w : WorldState D) → Begins w.views.board (settled_front w.committer.desk) →
+    w.views.board ≡ published_front (machine w)
 front_is w b = first_edits w.committer.desk w.views.board b
 
 -- ---- steps
-module _ {D : Type 0} (disk : Ghosts D) (only_now : (d : D) (c : List ℕ) → disk.honest d → disk.crash_states_since d (disk.moment d) c → IsOutcome (disk.unsynced d) c) where
+module _ {D : Type 0} (disk : Ghosts D)
+    (only_now : (d : D) (c : List ℕ) → disk.honest d → disk.crash_states_since d (disk.moment d) c →
+    IsOutcome (disk.unsynced d) c) where
   -- one that makes no call of the disk, and of the committer changes no more than what was told
-  pub told_step : (old new : WorldState D) (e : Event) (a : Answer) (t : ℕ) → new.committer ≡ record old.committer { told = t } → told_of old ≤ t → t ≡ told_after (told_of old) a
-      → [] ≡ accepted_by e a → ((x : List CallKind) → MakesItsCall e a x x) → ((n : ℕ) → RisesFor a n n) → Step (machine old) e a (machine new) → EachCrash disk (disk_of new) (KeptFrom (desk_of new) (told_of new)) → StepsTo disk old e a new
+  pub told_step : (old new : WorldState D) (e : Event) (a : Answer) (t : ℕ) →
+      new.committer ≡ record old.committer { told = t } → told_of old ≤ t → t ≡ told_after (told_of old) a
+      → [] ≡ accepted_by e a → ((x : List CallKind) → MakesItsCall e a x x) → ((n : ℕ) → RisesFor a n n) →
+      Step (machine old) e a (machine new) →
+      EachCrash disk (disk_of new) (KeptFrom (desk_of new) (told_of new)) → StepsTo disk old e a new
   told_step old new e a t is le told none calls rises steps exit =
       let told_is = ap (λ (x : CommitterState D). x.told) is in
       record {
         steps = steps;
-        log = ap (λ (x : CommitterState D). log x.desk) is ∙ sym (append-nil (log (desk_of old))) ∙ ap (λ (l : List Change). log (desk_of old) ++ l) none;
+        log = ap (λ (x : CommitterState D). log x.desk) is ∙ sym (append-nil (log (desk_of old))) ∙
+            ap (λ (l : List Change). log (desk_of old) ++ l) none;
         told = told_is ∙ told;
         store = ap (λ (x : CommitterState D). x.store.store) is;
         desk = ap (λ (x : CommitterState D). x.desk.store) is;
-        any_moment = keeps.rested disk only_now old.committer new.committer (ap (λ (x : CommitterState D). x.store) is) (omega (arith, told_is, le)) exit;
+        any_moment = keeps.rested disk only_now old.committer new.committer
+            (ap (λ (x : CommitterState D). x.store) is) (omega (arith, told_is, le)) exit;
         exit = exit;
         honest = subst (λ (x : CommitterState D). SameHonesty disk (disk_of old) x.store.disk) (sym is) ((λ h. h), (λ h. h));
-        called = subst (λ (x : CommitterState D). MakesItsCall e a (disk.calls (disk_of old)) (disk.calls x.store.disk)) (sym is) (calls (disk.calls (disk_of old)));
-        cause = subst (λ (x : CommitterState D). RisesFor a (disk.faults (disk_of old)) (disk.faults x.store.disk)) (sym is) (rises (disk.faults (disk_of old)));
+        called = subst (λ (x : CommitterState D). MakesItsCall e a (disk.calls (disk_of old))
+            (disk.calls x.store.disk)) (sym is) (calls (disk.calls (disk_of old)));
+        cause = subst (λ (x : CommitterState D). RisesFor a (disk.faults (disk_of old)) (disk.faults x.store.disk))
+            (sym is) (rises (disk.faults (disk_of old)));
       }
 
 abbrev pub World : {D : Type 0} → CommitterState D → ViewsState → WorldState D
@@ -119,8 +131,12 @@ taken_same edit (reply.Phase n) = refl
 
 module _ {D : Type 0} (disk : Ghosts D) where
   -- an event of the edits is a step of the world as it is one of the committer
-  pub committed : (e : Event) (c : Commit) (said : Reply) (m n : CommitterState D) (v : ViewsState) → ((P : Commit → Type 0) (Else : Type 0) → P c → ByCommitter e P Else) → accepted_of c said ≡ accepted_by e (answer_by said)
-      → (Step (machine (World m v)) e (answer_by said) (machine (World n v)) ≡ DoesCommit e (machine (World m v)) (answer_by said) (machine (World n v))) → StepsBy disk m c said n → StepsTo disk (World m v) e (answer_by said) (World n v)
+  pub committed : (e : Event) (c : Commit) (said : Reply) (m n : CommitterState D) (v : ViewsState) →
+      ((P : Commit → Type 0) (Else : Type 0) → P c → ByCommitter e P Else) →
+      accepted_of c said ≡ accepted_by e (answer_by said)
+      → (Step (machine (World m v)) e (answer_by said) (machine (World n v)) ≡ DoesCommit e (machine (World m v))
+      (answer_by said) (machine (World n v))) → StepsBy disk m c said n →
+      StepsTo disk (World m v) e (answer_by said) (World n v)
   committed e c said m n v by taken steps s = record {
     steps = subst (λ (T : Type 0). T) (sym steps) (by _ _ (said, refl, s.steps), refl);
     log = s.log ∙ ap (λ (l : List Change). log m.desk ++ l) taken;
@@ -145,7 +161,9 @@ HandedBy seat v n o = MatchOption o (HasNoNews v seat × (n ≡ v))
     (λ h. HasNews v seat × (h ≡ v.board) × (n ≡ record v { seats = slice_set v.seats seat (Has (front_revision v.board)) }))
 
 -- what is published was told
-pub machine_told : {D : Type 0} (m told : CommitterState D) (v n : ViewsState) (revision : ℕ) (seats : List Hello) → told ≡ record m { told = max m.told revision } → revision ≡ front_revision v.board → n ≡ record v { seats = seats }
+pub machine_told : {D : Type 0} (m told : CommitterState D) (v n : ViewsState) (revision : ℕ) (seats : List Hello) →
+    told ≡ record m { told = max m.told revision } → revision ≡ front_revision v.board →
+    n ≡ record v { seats = seats }
     → machine (World told n) ≡ record (machine (World m v)) { commits = and_published (machine (World m v)); seats = seats }
 machine_told m told v n revision seats is same views =
     ap (λ (x : CommitterState _). machine (World x n)) is

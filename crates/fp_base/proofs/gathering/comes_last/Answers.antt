@@ -20,4 +20,5 @@ returns-in-Some c = λ h.
     let all : ms ≡ take i ms ++ m ∷ drop (i + 1) ms = sym (take-append-drop i ms) ∙ ap (λ ys. take i ms ++ ys) here in
     let up_to : ms ≡ take i ms ++ m ∷ [] = sym (take_all (i + 1) ms (omega arith)) ∙ take-here ms i m inside is in
     subst (AreBefore name) (sym up_to)
-    (before-up_to name (take i ms) m (drop (i + 1) ms) (subst (λ ys. IsSorted (tree_members ys)) all c.requires) (sym c.cmp.ensures ∙ less c.cmp.result (sym c.is_lt.ensures ∙ h)))
+    (before-up_to name (take i ms) m (drop (i + 1) ms) (subst (λ ys. IsSorted (tree_members ys)) all c.requires)
+    (sym c.cmp.ensures ∙ less c.cmp.result (sym c.is_lt.ensures ∙ h)))

@@ -9,7 +9,8 @@ pub returns-clause-taken : goal.returns-clause-taken
 returns-clause-taken c = ap (option_map view) c.remove.ensures.value ∙ view-lookup c.args.name.now c.args.members.now.entries
 
 pub returns-clause-others : goal.returns-clause-others
-returns-clause-others c = λ q other. ap (λ es. get_member q (members_view es)) c.remove.ensures.entries ∙ others_stay c.args.name.now q c.args.members.now.entries other
+returns-clause-others c = λ q other. ap (λ es. get_member q (members_view es)) c.remove.ensures.entries ∙
+    others_stay c.args.name.now q c.args.members.now.entries other
 
 pub returns-clause-gone : goal.returns-clause-gone
 returns-clause-gone c = sym (view-lookup c.args.name.now _) ∙ ap (option_map view) c.remove.ensures.updates.1

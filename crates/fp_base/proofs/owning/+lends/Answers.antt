@@ -18,7 +18,8 @@ lent_items-loop-item-preserved t c =
       ap (map tree_view) pushed ∙ map-append tree_view c.loop-item.found.items (t ∷ [])
           ∙ rw (c.loop-item.invariant.0, c.in_ok-lent.ensures.same) (sym (map-append view (take i xs) (c.item-item.result ∷ [])))
           ∙ ap (map view) (sym (take-here xs i c.item-item.result (omega arith) c.item-item.is)),
-      subst (λ ts. AreOrdered (tree_items ts)) (sym pushed) (items_ordered-more c.loop-item.found.items t c.loop-item.invariant.1 c.in_ok-lent.ensures.ordered),
+      subst (λ ts. AreOrdered (tree_items ts)) (sym pushed)
+          (items_ordered-more c.loop-item.found.items t c.loop-item.invariant.1 c.in_ok-lent.ensures.ordered),
     )
 
 pub lent_members-loop-name-preserved : goal.lent_members-loop-name-preserved
@@ -33,7 +34,8 @@ lent_members-loop-name-preserved t c =
       done ++ e ∷ [],
       all ∙ sym (append_assoc done (e ∷ []) left),
       ap tree_members pushed ∙ same-more l.found.items m done e l.invariant.2 c.as_str.ensures.value c.in_ok-lent.ensures.same,
-      subst (λ ms. MembersAreOrdered (tree_members ms)) (sym pushed) (members_ordered-more l.found.items m l.invariant.3 c.in_ok-lent.ensures.ordered),
+      subst (λ ms. MembersAreOrdered (tree_members ms)) (sym pushed)
+          (members_ordered-more l.found.items m l.invariant.3 c.in_ok-lent.ensures.ordered),
     )
 
 pub lent_members-returns-clause-sorted : goal.lent_members-returns-clause-sorted

@@ -17,10 +17,12 @@ owned_members-loop-member-preserved t c ordered =
     let i = c.loop-member.member-index in
     let m : Entry = c.member-item.result in
     let e : values.Entry = (c.in_ok-name.name, c.in_ok-owned.field-0) in
-    let parts = subst (λ ys. MembersAreOrdered (tree_members ys)) (drop-here ms i m (omega arith) c.member-item.is) (c.loop-member.invariant ordered).1 in
+    let parts = subst (λ ys. MembersAreOrdered (tree_members ys)) (drop-here ms i m (omega arith) c.member-item.is)
+    (c.loop-member.invariant ordered).1 in
     let named : m.0.now ≡ string_bytes e.0 = search rules in (
       ap tree_members (take-here ms i m (omega arith) c.member-item.is)
-          ∙ same-more (take i ms) m c.loop-member.found.items e (c.loop-member.invariant ordered).0 named (sym (c.in_ok-owned.ensures parts.0))
+          ∙ same-more (take i ms) m c.loop-member.found.items e (c.loop-member.invariant ordered).0 named
+          (sym (c.in_ok-owned.ensures parts.0))
           ∙ ap members_view (sym c.in_ok-push.ensures.items),
       parts.1,
     )
@@ -33,5 +35,6 @@ owned_members-returns t c sorted ordered =
     let n = c.in_ok-collect.field-0 in
     let made : IsFromIterResult string_cmp xs n = search rules in
     let done = c.loop-member.invariant (subst (λ ys. MembersAreOrdered (tree_members ys)) (sym same) ordered) in
-    let all : tree_members c.args.members.now.items ≡ members_view xs = ap tree_members (sym same ∙ sym (take_all c.loop-member.member-index ms (omega arith))) ∙ done.0 in
+    let all : tree_members c.args.members.now.items ≡ members_view xs =
+    ap tree_members (sym same ∙ sym (take_all c.loop-member.member-index ms (omega arith))) ∙ done.0 in
     collected xs n made (subst IsSorted all sorted) ∙ sym all

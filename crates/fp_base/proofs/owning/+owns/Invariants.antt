@@ -12,4 +12,5 @@ invariant-owned_items-loop-item l =
 abbrev pub invariant-owned_members-loop-member : goal.invariant-owned_members-loop-member
 invariant-owned_members-loop-member l =
     MembersAreOrdered (tree_members l.member-items)
-    → (tree_members (take l.member-index l.member-items) ≡ members_view l.found.items) × MembersAreOrdered (tree_members (drop l.member-index l.member-items))
+    → (tree_members (take l.member-index l.member-items) ≡ members_view l.found.items) ×
+    MembersAreOrdered (tree_members (drop l.member-index l.member-items))

@@ -20,7 +20,8 @@ loop-low-preserved-then-is_lt c =
     let here : drop middle ms ≡ m ∷ drop (middle + 1) ms = drop-here ms middle m inside c.index-members-middle.is in
     let all : ms ≡ take middle ms ++ m ∷ drop (middle + 1) ms = sym (take-append-drop middle ms) ∙ ap (λ ys. take middle ms ++ ys) here in
     let before : slice_cmp nat_cmp m.0.now name ≡ Less =
-    ap (λ (x : Entry). slice_cmp nat_cmp x.0.now name) c.index-members-middle.is ∙ sym c.cmp.ensures ∙ less c.cmp.result (sym c.is_lt.ensures ∙ c.if-is_lt.true) in (
+    ap (λ (x : Entry). slice_cmp nat_cmp x.0.now name) c.index-members-middle.is ∙ sym c.cmp.ensures ∙
+    less c.cmp.result (sym c.is_lt.ensures ∙ c.if-is_lt.true) in (
       omega arith,
       c.loop-low.invariant.1,
       subst (AreBefore name) (sym (take-here ms middle m inside c.index-members-middle.is))

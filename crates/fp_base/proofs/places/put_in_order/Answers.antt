@@ -17,7 +17,9 @@ returns-then-is_named c =
     let m : Entry = c.index_mut.result.now in
     let lent = c.deref.ensures.value in
     let before : AreBefore name (take at ms) = subst (λ ys. AreBefore name (take at ys)) lent c.place_of-at.ensures.before in
-    let is : first_is_named name (drop at ms) ≡ true = ap (λ ys. first_is_named name (drop at ys)) (sym c.deref-2.ensures.value) ∙ sym c.is_named.ensures ∙ c.if-is_named.true in
+    let is : first_is_named name (drop at ms) ≡ true =
+    ap (λ ys. first_is_named name (drop at ys)) (sym c.deref-2.ensures.value) ∙ sym c.is_named.ensures ∙
+    c.if-is_named.true in
     let within : at < length ms = named-within name ms at is in
     let here : drop at ms ≡ m ∷ drop (at + 1) ms = drop-here ms at m within c.index_mut.ensures.value in
     let named : m.0.now ≡ name = (bytes_eq-Decides m.0.now name).0 (ap (first_is_named name) (sym here) ∙ is) in
@@ -35,7 +37,9 @@ returns-in_ok-insert c =
     let lent = c.deref.ensures.value in
     let before : AreBefore name (take at ms) = subst (λ ys. AreBefore name (take at ys)) lent c.place_of-at.ensures.before in
     let behind : IsNotBefore name (drop at ms) = subst (λ ys. IsNotBefore name (drop at ys)) lent c.place_of-at.ensures.behind in
-    let other : first_is_named name (drop at ms) ≡ false = ap (λ ys. first_is_named name (drop at ys)) (sym c.deref-2.ensures.value) ∙ sym c.is_named.ensures ∙ c.if-is_named.false in
+    let other : first_is_named name (drop at ms) ≡ false =
+    ap (λ ys. first_is_named name (drop at ys)) (sym c.deref-2.ensures.value) ∙ sym c.is_named.ensures ∙
+    c.if-is_named.false in
     ap tree_members c.in_ok-insert.ensures.items
     ∙ sym (put-behind name (tree_view m.1) (take at ms) (drop at ms) (m ∷ drop at ms) before (put-first m (drop at ms) behind other))
     ∙ ap (λ ys. put name (tree_view m.1) (tree_members ys)) (take-append-drop at ms)

@@ -18,26 +18,38 @@ use Rattle.fp_base.proofs.tree_reading.+read.Goals as goal
 pub read-returns-in_err-read_items-in-BeginArray-clause-refused : goal.read-returns-in_err-read_items-in-BeginArray-clause-refused
 read-returns-in_err-read_items-in-BeginArray-clause-refused t c refused =
     let first : c.args.reader.now ≡ token_of c.in_ok-token.token ∷ c.next.new.self = grind arith in
-    let opened = ap (converted of_json) (ap (value c.args.depth) (first ∙ ap (λ k. token_of k ∷ c.next.new.self) c.in-BeginArray.is) ∙ value-begin_array c.args.depth c.next.new.self (omega arith)) ∙ array-parsed (items (value (c.args.depth - 1)) (length c.next.new.self) c.next.new.self) in
+    let opened = ap (converted of_json)
+    (ap (value c.args.depth) (first ∙ ap (λ k. token_of k ∷ c.next.new.self) c.in-BeginArray.is) ∙
+    value-begin_array c.args.depth c.next.new.self (omega arith)) ∙
+    array-parsed (items (value (c.args.depth - 1)) (length c.next.new.self) c.next.new.self) in
     opened ∙ ap (parse_map array) (c.read_items.ensures.refused (grind arith))
 
 pub read-returns-in_err-read_members-in-BeginObject-clause-refused : goal.read-returns-in_err-read_members-in-BeginObject-clause-refused
 read-returns-in_err-read_members-in-BeginObject-clause-refused t c refused =
     let first : c.args.reader.now ≡ token_of c.in_ok-token.token ∷ c.next.new.self = grind arith in
-    let opened = ap (converted of_json) (ap (value c.args.depth) (first ∙ ap (λ k. token_of k ∷ c.next.new.self) c.in-BeginObject.is) ∙ value-begin_object c.args.depth c.next.new.self (omega arith)) ∙ object-parsed (members (value (c.args.depth - 1)) (length c.next.new.self) c.next.new.self) in
+    let opened = ap (converted of_json)
+    (ap (value c.args.depth) (first ∙ ap (λ k. token_of k ∷ c.next.new.self) c.in-BeginObject.is) ∙
+    value-begin_object c.args.depth c.next.new.self (omega arith)) ∙
+    object-parsed (members (value (c.args.depth - 1)) (length c.next.new.self) c.next.new.self) in
     opened ∙ ap (parse_map object) (c.read_members.ensures.refused (grind arith))
 
 pub read-returns-in_ok-read_items-in-BeginArray-clause-ok : goal.read-returns-in_ok-read_items-in-BeginArray-clause-ok
 read-returns-in_ok-read_items-in-BeginArray-clause-ok t c =
     let first : c.args.reader.now ≡ token_of c.in_ok-token.token ∷ c.next.new.self = grind arith in
-    let opened = ap (converted of_json) (ap (value c.args.depth) (first ∙ ap (λ k. token_of k ∷ c.next.new.self) c.in-BeginArray.is) ∙ value-begin_array c.args.depth c.next.new.self (omega arith)) ∙ array-parsed (items (value (c.args.depth - 1)) (length c.next.new.self) c.next.new.self) in
+    let opened = ap (converted of_json)
+    (ap (value c.args.depth) (first ∙ ap (λ k. token_of k ∷ c.next.new.self) c.in-BeginArray.is) ∙
+    value-begin_array c.args.depth c.next.new.self (omega arith)) ∙
+    array-parsed (items (value (c.args.depth - 1)) (length c.next.new.self) c.next.new.self) in
     let found = c.in_ok-read_items-in-BeginArray in
     opened ∙ ap (parse_map array) found.ensures.ok ∙ ap (λ d. Some (d, c.read_items.new.reader)) (sym (view-Array found.field-0))
 
 pub read-returns-in_ok-read_members-in-BeginObject-clause-ok : goal.read-returns-in_ok-read_members-in-BeginObject-clause-ok
 read-returns-in_ok-read_members-in-BeginObject-clause-ok t c =
     let first : c.args.reader.now ≡ token_of c.in_ok-token.token ∷ c.next.new.self = grind arith in
-    let opened = ap (converted of_json) (ap (value c.args.depth) (first ∙ ap (λ k. token_of k ∷ c.next.new.self) c.in-BeginObject.is) ∙ value-begin_object c.args.depth c.next.new.self (omega arith)) ∙ object-parsed (members (value (c.args.depth - 1)) (length c.next.new.self) c.next.new.self) in
+    let opened = ap (converted of_json)
+    (ap (value c.args.depth) (first ∙ ap (λ k. token_of k ∷ c.next.new.self) c.in-BeginObject.is) ∙
+    value-begin_object c.args.depth c.next.new.self (omega arith)) ∙
+    object-parsed (members (value (c.args.depth - 1)) (length c.next.new.self) c.next.new.self) in
     let found = c.in_ok-read_members-in-BeginObject in
     opened ∙ ap (parse_map object) found.ensures.ok ∙ ap (λ d. Some (d, c.read_members.new.reader)) (sym (view-Object found.field-0))
 
@@ -57,7 +69,8 @@ read_items-items-preserved t c =
       l.invariant.2 ∙ ap (parse_map (items_before l.found.items)) turn ∙ one_more_item l.found.items v _
           ∙ ap (λ ts. parse_map (items_before ts) (converted of_items (items p (n - 1) r))) (sym c.in_ok-push.ensures.items),
       omega (arith, l.invariant.3),
-      subst (λ ts. AreOrdered (tree_items ts)) (sym c.in_ok-push.ensures.items) (items_ordered-more l.found.items v l.invariant.4 done.ordered),
+      subst (λ ts. AreOrdered (tree_items ts)) (sym c.in_ok-push.ensures.items)
+          (items_ordered-more l.found.items v l.invariant.4 done.ordered),
     )
 
 pub read_members-returns-in_err-name-clause-refused : goal.read_members-returns-in_err-name-clause-refused
@@ -71,7 +84,8 @@ read_members-returns-in_err-member-clause-refused t c refused =
     let k = c.in-Some.name.now in
     let s = c.next_key.new.self in
     let named : read_key l.reader ≡ Some (Some k, s) = grind arith in
-    l.invariant.2 ∙ no-member (value c.args.depth) (gathered l.found) l.invariant.0 k l.reader s named (c.read.ensures.refused (grind arith))
+    l.invariant.2 ∙ no-member (value c.args.depth) (gathered l.found) l.invariant.0 k l.reader s named
+    (c.read.ensures.refused (grind arith))
 
 pub read_members-members-preserved : goal.read_members-members-preserved
 read_members-members-preserved t c =

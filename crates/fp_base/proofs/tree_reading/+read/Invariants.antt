@@ -22,7 +22,8 @@ decreases-read_members l = 2 * l.depth + 1
 abbrev pub invariant-read_items-items : goal.invariant-read_items-items
 invariant-read_items-items l =
     (n : ℕ) × (length l.reader ≤ n)
-    × (converted of_items (items (value l.depth) (length l.initial.reader) l.initial.reader) ≡ parse_map (items_before l.found.items) (converted of_items (items (value l.depth) n l.reader)))
+    × (converted of_items (items (value l.depth) (length l.initial.reader) l.initial.reader) ≡ parse_map
+    (items_before l.found.items) (converted of_items (items (value l.depth) n l.reader)))
     × (length l.reader ≤ length l.initial.reader)
     × AreOrdered (tree_items l.found.items)
 
@@ -32,7 +33,9 @@ decreases-read_items-items l = length l.reader
 abbrev pub invariant-read_members-members : goal.invariant-read_members-members
 invariant-read_members-members l =
     (n : ℕ) × (length l.reader ≤ n)
-    × (converted (λ ms. of_members ms no_members) (members (value l.depth) (length l.initial.reader) l.initial.reader) ≡ converted (λ ms. of_members ms (gathered l.found)) (members (value l.depth) n l.reader))
+    × (converted (λ ms. of_members ms no_members)
+    (members (value l.depth) (length l.initial.reader) l.initial.reader) ≡ converted
+    (λ ms. of_members ms (gathered l.found)) (members (value l.depth) n l.reader))
     × (length l.reader ≤ length l.initial.reader)
     × IsSorted (gathered l.found)
     × MembersAreOrdered (gathered l.found)

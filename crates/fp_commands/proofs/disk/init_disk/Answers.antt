@@ -8,4 +8,5 @@ returns-in-Ok-clause-sure g c = λ h.
     let D = g.D.Disk in
     let size : c.bytes.result ≡ 2 ^ 24 = c.bytes.ensures.bytes ∙ c.standard.ensures in
     subst (λ n. IsDurable (D.unsynced c.into_disk.result) (new_set n)) size
-    (subst (λ (d : g.row.D.Denot). IsDurable (D.unsynced d) (new_set c.bytes.result)) (sym c.into_disk.ensures.disk) (c.in-Ok.ensures.sure h))
+    (subst (λ (d : g.row.D.Denot). IsDurable (D.unsynced d) (new_set c.bytes.result)) (sym c.into_disk.ensures.disk)
+    (c.in-Ok.ensures.sure h))

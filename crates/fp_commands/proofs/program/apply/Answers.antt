@@ -20,10 +20,19 @@ returns g c =
     let new = g.W.Write.contents c.apply_lines-flags.new.w.inner in
     let before = c.args.r.now.failures + c.args.w.now.failures in
     let after = c.apply_lines-flags.new.r.failures + c.apply_lines-flags.new.w.failures in
-    let run : IfSome left (λ input. IsRunWritten c.new.result (asked_by_input input) told old new now) = subst (λ o. IfOk o (λ b. IfSome left (λ input. IsRunWritten c.new.result (asked_by_input input) b old new now))) c.in_ok-_told.was c.apply_lines-flags.ensures.runs.run in
+    let run : IfSome left (λ input. IsRunWritten c.new.result (asked_by_input input) told old new now) =
+    subst (λ o. IfOk o (λ b. IfSome left
+    (λ input. IsRunWritten c.new.result (asked_by_input input) b old new now))) c.in_ok-_told.was
+    c.apply_lines-flags.ensures.runs.run in
     let same = subst (λ (o : Result Bool ApplyFault). plane.Blames before after o) c.in_ok-_told.was c.apply_lines-flags.ensures.device in
     record {
-      applies = IfSome_then left run (λ input r. (told, now, subst (λ s. IsRunWritten s (asked_by_input input) told old new now) c.new.ensures r));
+      applies = IfSome_then left run
+          (λ input r. (
+            told,
+            now,
+            subst (λ s. IsRunWritten s (asked_by_input input) told old new now) c.new.ensures
+                r,
+          ));
       no_failure = omega (arith, same);
     }
 
@@ -41,12 +50,21 @@ returns-in_err-_told-clause-applies g c =
     let after = l.new.r.failures + l.new.w.failures in
     let Outcome : Type 0 = Result Bool ApplyFault in
     let LedTo : State → Type 0 = λ flags. IfSome left (λ input. IsAfterPrefix first (asked_by_input input) flags) in
-    let Told : ApplyFault → State → Type 0 = λ f flags. IfSome left (λ input. IsToldBy first (asked_by_input input) 1 f old new now flags) in
+    let Told : ApplyFault → State → Type 0 =
+    λ f flags. IfSome left (λ input. IsToldBy first (asked_by_input input) 1 f old new now flags) in
     let course = subst (λ (o : Outcome). StoreRun set_store LedTo first now o) c.in_err-_told.was l.ensures.runs.course in
     let device = subst (λ (o : Outcome). plane.Blames before after o) c.in_err-_told.was l.ensures.device in
-    let told = subst (λ (o : Outcome). IfErr o (λ f. l.new.w.failures ≡ c.args.w.now.failures → (flags : State) → flags ≡ now → Told f flags)) c.in_err-_told.was l.ensures.runs.told in
+    let told = subst (λ (o : Outcome). IfErr o
+    (λ f. l.new.w.failures ≡ c.args.w.now.failures → (flags : State) → flags ≡ now → Told f flags))
+    c.in_err-_told.was l.ensures.runs.told in
     rw (p.1, p.2) (
       set-course Bool LedTo first now ended course,
       blames-alone Bool (Unit {0}) before after ended device,
-      λ same. IfSome_then left (told same now refl) (λ input t. (ended, now, refl, subst (λ (s : State). IsToldBy s (asked_by_input input) 1 ended old new now now) c.new.ensures t)),
+      λ same. IfSome_then left (told same now refl)
+          (λ input t. (
+            ended,
+            now,
+            refl,
+            subst (λ (s : State). IsToldBy s (asked_by_input input) 1 ended old new now now) c.new.ensures t,
+          )),
     )

@@ -9,10 +9,15 @@ pub returns-clause-performs : goal.returns-clause-performs
 returns-clause-performs g c =
     let o = c.in_ok-disk.ensures in
     let back = c.close.ensures in
-    on_file g.F.DiskFiles g.F.Disk.Disk _ _ c.args.path.now Reading (IsThere g.F.DiskFiles c.args.files.now c.args.path.now) (EvaluatesOnDisk g.F.Disk.Disk g.R.Read.remaining g.W.Write.contents _ _ c.args.key.now c.args.now) c.eval_disk-disk.result.1 (record {
+    on_file g.F.DiskFiles g.F.Disk.Disk _ _ c.args.path.now Reading
+    (IsThere g.F.DiskFiles c.args.files.now c.args.path.now)
+    (EvaluatesOnDisk g.F.Disk.Disk g.R.Read.remaining g.W.Write.contents _ _ c.args.key.now c.args.now)
+    c.eval_disk-disk.result.1 (record {
       before = c.in_ok-disk.disk;
       after = c.eval_disk-disk.result.0;
       found = o.found;
-      lent = lent_once g.F.DiskFiles g.F.Disk.Disk c.args.files.now c.open_read_only.new.self c.close.new.self c.args.path.now Reading c.eval_disk-disk.result.0 o.asked o.others o.lent (o.cause.well refl) back.asked back.others back.kept back.faults;
+      lent = lent_once g.F.DiskFiles g.F.Disk.Disk c.args.files.now c.open_read_only.new.self c.close.new.self
+          c.args.path.now Reading c.eval_disk-disk.result.0 o.asked o.others o.lent (o.cause.well refl) back.asked
+          back.others back.kept back.faults;
       does = search (rules, only_read);
     })

@@ -10,11 +10,15 @@ returns g c =
     let o = c.in_ok-disk.ensures in
     let made = c.init_disk-disk.ensures in
     let back = c.close.ensures in
-    on_file g.F.DiskFiles g.F.Disk.Disk _ _ c.args.path.now Making (IsThereOrNew g.F.DiskFiles g.F.Disk.Disk c.args.files.now c.args.path.now) (MakesDisk g.F.Disk.Disk _ _) c.init_disk-disk.result.1 (record {
+    on_file g.F.DiskFiles g.F.Disk.Disk _ _ c.args.path.now Making
+    (IsThereOrNew g.F.DiskFiles g.F.Disk.Disk c.args.files.now c.args.path.now) (MakesDisk g.F.Disk.Disk _ _)
+    c.init_disk-disk.result.1 (record {
       before = c.in_ok-disk.disk;
       after = c.init_disk-disk.result.0;
       found = o.found;
-      lent = lent_once g.F.DiskFiles g.F.Disk.Disk c.args.files.now c.create.new.self c.close.new.self c.args.path.now Making c.init_disk-disk.result.0 o.asked o.others o.lent (o.cause.well refl) back.asked back.others back.kept back.faults;
+      lent = lent_once g.F.DiskFiles g.F.Disk.Disk c.args.files.now c.create.new.self c.close.new.self
+          c.args.path.now Making c.init_disk-disk.result.0 o.asked o.others o.lent (o.cause.well refl) back.asked
+          back.others back.kept back.faults;
       does = record {
         unread = refl;
         nothing_written = refl;

@@ -21,4 +21,5 @@ returns-clause-image c =
 pub returns-clause-len : goal.returns-clause-len
 returns-clause-len c =
     let is = c.in_ok-image.ensures in
-    ap length c.in_ok-bytes.ensures.spelled ∙ ap (λ (xs : List (List ℕ × Flag)). length (encoding_of_image xs)) is ∙ length-encoding_of_image (fin.entries c.args.set.now.flags)
+    ap length c.in_ok-bytes.ensures.spelled ∙ ap (λ (xs : List (List ℕ × Flag)). length (encoding_of_image xs)) is ∙
+    length-encoding_of_image (fin.entries c.args.set.now.flags)

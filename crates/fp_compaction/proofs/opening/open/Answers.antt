@@ -15,7 +15,8 @@ use Rattle.fp_compaction.proofs.opening.open.Goals as goal
 pub returns-clause-stands : goal.returns-clause-stands
 returns-clause-stands g c = λ h.
     let D = g.D.Disk in let e = c.in_ok-slots.ensures in let j = c.in_ok-slots.slots.journal in
-    subst (λ (s : State). StandsFor (D.bytes c.args.disk) s) (sym c.into_set-set.ensures) (found_stands (D.bytes c.args.disk) c.new-restoring.result c.open.new.reader j.slot j.front (e.found h))
+    subst (λ (s : State). StandsFor (D.bytes c.args.disk) s) (sym c.into_set-set.ensures)
+    (found_stands (D.bytes c.args.disk) c.new-restoring.result c.open.new.reader j.slot j.front (e.found h))
 
 pub returns-clause-place : goal.returns-clause-place
 returns-clause-place g c = λ h.
@@ -36,11 +37,15 @@ returns-clause-kept g c =
     let before = c.new-restoring.result in let after = c.open.new.reader in let i = e.read.begun in (
       i.size,
       subst (λ (s : State). IsPlaced i.size slots s.limit) (sym c.into_set-set.ensures) (placed slots before after e.read),
-      λ h. subst (λ (s : State). IsKeptIn (D.unsynced j.disk) slots i.size s) (sym c.into_set-set.ensures) (found_kept (D.unsynced j.disk) slots (D.bytes c.args.disk) before after (e.found h) e.begins.0 (e.all_synced h) (e.slots h).version_is i.size i.side i.slot_is i.other_is),
+      λ h. subst (λ (s : State). IsKeptIn (D.unsynced j.disk) slots i.size s) (sym c.into_set-set.ensures)
+          (found_kept (D.unsynced j.disk) slots (D.bytes c.args.disk) before after (e.found h) e.begins.0
+          (e.all_synced h) (e.slots h).version_is i.size i.side i.slot_is i.other_is),
     )
 
 pub returns-clause-opens : goal.returns-clause-opens
 returns-clause-opens g c = opens_as c.in_ok-slots.ensures.kept
 
 pub returns-in_err-slots-clause-opens : goal.returns-in_err-slots-clause-opens
-returns-in_err-slots-clause-opens g c = let p = err_from_is_err_and c.from_residual.result c.from_residual.ensures.1 in rw (p.1, p.2) (refuses_as c.in_err-slots.ensures.kept)
+returns-in_err-slots-clause-opens g c = let p =
+    err_from_is_err_and c.from_residual.result c.from_residual.ensures.1 in
+    rw (p.1, p.2) (refuses_as c.in_err-slots.ensures.kept)

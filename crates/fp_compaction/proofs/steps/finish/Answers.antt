@@ -20,7 +20,8 @@ returns-clause-stands g c =
 pub returns-in_err-switch-clause-on : goal.returns-in_err-switch-clause-on
 returns-in_err-switch-clause-on g c =
     let p = err_from_is_err_and c.from_residual.result c.from_residual.ensures.1 in
-    let D = g.D.Disk in let old = c.args.slots.now in let w = c.switch.ensures in let new = c.switch.new.self in let broken = c.in_err-switch.ensures.broken in
+    let D = g.D.Disk in let old = c.args.slots.now in let w = c.switch.ensures in let new = c.switch.new.self in
+    let broken = c.in_err-switch.ensures.broken in
     rw p.1 (record {
       taken = record {
         stands = steps.late_leaves D old new c.requires.step tt (steps.either_leaves D old new w.call);
@@ -38,12 +39,16 @@ returns-in_err-switch-clause-on g c =
 
 pub returns-clause-on : goal.returns-clause-on
 returns-clause-on g c =
-    let D = g.D.Disk in let old = c.args.slots.now in let w = c.switch.ensures in let new = c.switch.new.self in let ok = c.in_ok-switch.ensures in record {
+    let D = g.D.Disk in let old = c.args.slots.now in let w = c.switch.ensures in let new = c.switch.new.self in
+    let ok = c.in_ok-switch.ensures in record {
       taken = record {
         stands = steps.late_leaves D old new c.requires.step tt (steps.either_leaves D old new w.call);
         kept = λ h size s k late. (
           other_side k.0,
-          kept.turned (D.unsynced old.journal.disk) old size k.0 s k.1 D.moment D.crash_states_since D.unsynced old.journal.disk new.journal.disk refl (w.call.apart h) new (late (steps.is_late old.step SyncOpen c.requires.step tt)) ok.switched.0 ok.switched.1 ok.switched.2 ok.turned.0 ok.turned.2,
+          kept.turned (D.unsynced old.journal.disk) old size k.0 s k.1 D.moment D.crash_states_since D.unsynced
+              old.journal.disk new.journal.disk refl (w.call.apart h) new
+              (late (steps.is_late old.step SyncOpen c.requires.step tt)) ok.switched.0 ok.switched.1 ok.switched.2
+              ok.turned.0 ok.turned.2,
         );
         honest = w.call.word.honest;
         called = steps.called_at D.calls old new c.requires.step w.called;
@@ -57,7 +62,8 @@ returns-clause-on g c =
         generation = ok.turned.1;
         version = ok.turned.2;
         may_open = ok.turned.3;
-        still = ⊎_elim (λ e. e) (λ e. absurd (c.requires.live e)) (subst (λ (q : Step). IsStill q old.journal.phase) c.requires.step c.step.ensures.still);
+        still = ⊎_elim (λ e. e) (λ e. absurd (c.requires.live e))
+            (subst (λ (q : Step). IsStill q old.journal.phase) c.requires.step c.step.ensures.still);
         phase = ok.switched.3;
         begun = ok.begun;
         room = steps.room_turned old new ok.switched.0 ok.switched.1 ok.switched.2;

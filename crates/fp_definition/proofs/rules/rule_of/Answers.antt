@@ -14,4 +14,5 @@ rule_written-requires-clause-flat c =
 
 pub rule_written-requires-clause-ordered : goal.rule_written-requires-clause-ordered
 rule_written-requires-clause-ordered c =
-    ordered_get (codes "targeting") (tree_view c.args.tree.now) (tree_view c.in-Some.targeting.now) c.requires.ordered (sym c.in-Some.ensures)
+    ordered_get (codes "targeting") (tree_view c.args.tree.now) (tree_view c.in-Some.targeting.now)
+    c.requires.ordered (sym c.in-Some.ensures)

@@ -15,4 +15,5 @@ pub returns-in_ok-compiled-in-Object-clause-rule : goal.returns-in_ok-compiled-i
 returns-in_ok-compiled-in-Object-clause-rule c =
     let fits = c.in-Object.members.ok in
     let some : length c.in-Object.members.items ≡ 0 → ⊥ = λ h. grind (arith, fits, h, c.is_empty.ensures, c.if-is_empty.false) in
-    the_rule c.args.targeting.now c.in-Object.members c.in-Object.is c.in_ok-compiled-in-Object.field-0 some c.in_ok-compiled-in-Object.ensures.rule
+    the_rule c.args.targeting.now c.in-Object.members c.in-Object.is c.in_ok-compiled-in-Object.field-0 some
+    c.in_ok-compiled-in-Object.ensures.rule

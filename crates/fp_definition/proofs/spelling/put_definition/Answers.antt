@@ -9,7 +9,8 @@ use Rattle.fp_definition.proofs.spelling.put_definition.Goals as goal
 
 pub returns-in-Object-clause-printed : goal.returns-in-Object-clause-printed
 returns-in-Object-clause-printed c =
-    let seen = ap tree_view c.in-Object.is ∙ view-Object c.in-Object.members ∙ ap (λ xs. object (tree_members xs)) (sym c.deref.ensures.value) in
+    let seen = ap tree_view c.in-Object.is ∙ view-Object c.in-Object.members ∙
+    ap (λ xs. object (tree_members xs)) (sym c.deref.ensures.value) in
     subst (λ d. OnOk c.put_members.result (IsPrinted d)) (sym seen) c.put_members.ensures.printed
 
 same : (ms ns : Members) → object ms ≡ object ns → ms ≡ ns
@@ -17,7 +18,11 @@ same ms ns h = cc
 
 pub returns-in-Object-clause-noted : goal.returns-in-Object-clause-noted
 returns-in-Object-clause-noted c =
-    let seen = ap tree_view c.in-Object.is ∙ view-Object c.in-Object.members ∙ ap (λ xs. object (tree_members xs)) (sym c.deref.ensures.value) in
+    let seen = ap tree_view c.in-Object.is ∙ view-Object c.in-Object.members ∙
+    ap (λ xs. object (tree_members xs)) (sym c.deref.ensures.value) in
     let before = c.args.spelled.now in let after = c.put_members.new.spelled in
-    on_ok_weaker c.put_members.result (λ h ms is. subst (λ ns. AreNoted before.text.items (option_map (λ v. v.items) before.variants) before.metadata ns ns
-    → AreNoted after.text.items (option_map (λ v. v.items) after.variants) after.metadata no_members ns) (same _ ms (sym seen ∙ is)) h) c.put_members.ensures.noted
+    on_ok_weaker c.put_members.result
+    (λ h ms is. subst (λ ns. AreNoted before.text.items (option_map (λ v. v.items) before.variants)
+    before.metadata ns ns
+    → AreNoted after.text.items (option_map (λ v. v.items) after.variants) after.metadata no_members ns)
+    (same _ ms (sym seen ∙ is)) h) c.put_members.ensures.noted

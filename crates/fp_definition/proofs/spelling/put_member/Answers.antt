@@ -32,7 +32,8 @@ returns-then-is_first-2-clause-noted c = λ left all h.
     let there = at_new old.text.items _ (compact_text d) p text start end in
     subst (λ xs. AreNoted xs (option_map (λ v. v.items) old.variants) (Some p) left all) (sym text)
     (noted_metadata old.text.items (compact_text d) (option_map (λ v. v.items) old.variants) old.metadata name d left all p
-    both.0 (none_at old.metadata (sym new ∙ both.1)) (subst (λ xs. at xs p ≡ compact_text d) text there.0) (subst (λ xs. IsWithin xs p) text there.1) h)
+    both.0 (none_at old.metadata (sym new ∙ both.1)) (subst (λ xs. at xs p ≡ compact_text d) text there.0)
+    (subst (λ xs. IsWithin xs p) text there.1) h)
 
 pub returns-else-is_first-2-clause-noted : goal.returns-else-is_first-2-clause-noted
 returns-else-is_first-2-clause-noted c = λ left all h.
@@ -42,5 +43,6 @@ returns-else-is_first-2-clause-noted c = λ left all h.
     let text = c.in_ok-put_text.ensures.text in
     subst (λ xs. AreNoted xs (option_map (λ v. v.items) old.variants) old.metadata left all) (sym text)
     (noted_other old.text.items (compact_text d) (option_map (λ v. v.items) old.variants) old.metadata name d left all
-    (is_noted name (codes "variants") old.variants (ap (λ b. bytes_eq name (codes "variants") && b) (sym new) ∙ sym c.is_first.ensures ∙ c.if-is_first.false))
+    (is_noted name (codes "variants") old.variants
+    (ap (λ b. bytes_eq name (codes "variants") && b) (sym new) ∙ sym c.is_first.ensures ∙ c.if-is_first.false))
     (ap (λ b. bytes_eq name (codes "metadata") && b) (sym anew) ∙ sym c.is_first-2.ensures ∙ c.if-is_first-2.false) h)

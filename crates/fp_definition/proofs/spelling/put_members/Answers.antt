@@ -25,12 +25,16 @@ loop-member-preserved c =
     let name = comma_if l.later ++ (quoted m.0.now ++ 58 ∷ []) in
     let old = l.spelled in let vs = option_map (λ v. v.items) old.variants in (
       (and_parts (is_whole (tree_view m.1)) (members_whole rest) (ap members_whole (sym here) ∙ l.invariant.0)).1,
-      behind_name old.text.items _ _ (comma_if l.later) (quoted m.0.now) (compact_text (tree_view m.1)) (members_text true rest) c.in_ok-put_name.ensures.text c.in_ok-put_member.ensures.text
+      behind_name old.text.items _ _ (comma_if l.later) (quoted m.0.now) (compact_text (tree_view m.1))
+          (members_text true rest) c.in_ok-put_name.ensures.text c.in_ok-put_member.ensures.text
           ∙ ap (λ ds. old.text.items ++ members_text l.later ds) (sym here) ∙ l.invariant.1,
-      λ h. l.invariant.2 (subst (AreMembersPrinted l.later) (sym here) (member_printed l.later m.0.now (tree_view m.1) rest c.in_ok-put_name.ensures.utf8 c.in_ok-put_member.ensures.printed h)),
+      λ h. l.invariant.2 (subst (AreMembersPrinted l.later) (sym here)
+          (member_printed l.later m.0.now (tree_view m.1) rest c.in_ok-put_name.ensures.utf8
+          c.in_ok-put_member.ensures.printed h)),
       λ h. c.in_ok-put_member.ensures.noted rest all
           (subst (λ ys. AreNoted ys vs old.metadata (member m.0.now (tree_view m.1) rest) all) (sym c.in_ok-put_name.ensures.text)
-          (noted_more old.text.items name vs old.metadata (member m.0.now (tree_view m.1) rest) all (subst (λ ms. AreNoted old.text.items vs old.metadata ms all) here (l.invariant.3 h)))),
+          (noted_more old.text.items name vs old.metadata (member m.0.now (tree_view m.1) rest) all
+          (subst (λ ms. AreNoted old.text.items vs old.metadata ms all) here (l.invariant.3 h)))),
     )
 
 pub returns-clause-printed : goal.returns-clause-printed
@@ -47,6 +51,8 @@ returns-clause-noted c = λ h.
     let old = c.args.spelled.now in
     let begun = subst (λ ys. AreNoted ys (option_map (λ v. v.items) old.variants) old.metadata all all) (sym c.in_ok-push.ensures.items)
     (noted_more old.text.items (123 ∷ []) (option_map (λ v. v.items) old.variants) old.metadata all all h) in
-    subst (λ ys. AreNoted ys (option_map (λ v. v.items) l.spelled.variants) l.spelled.metadata no_members all) (sym c.in_ok-push-2.ensures.items)
+    subst (λ ys. AreNoted ys (option_map (λ v. v.items) l.spelled.variants) l.spelled.metadata no_members all)
+    (sym c.in_ok-push-2.ensures.items)
     (noted_more l.spelled.text.items (125 ∷ []) (option_map (λ v. v.items) l.spelled.variants) l.spelled.metadata no_members all
-    (subst (λ ms. AreNoted l.spelled.text.items (option_map (λ v. v.items) l.spelled.variants) l.spelled.metadata ms all) none (l.invariant.3 begun)))
+    (subst (λ ms. AreNoted l.spelled.text.items (option_map (λ v. v.items) l.spelled.variants) l.spelled.metadata ms
+    all) none (l.invariant.3 begun)))

@@ -10,7 +10,10 @@ use Rattle.fp_definition.proofs.spelling.put_members.Given as goal
 abbrev pub invariant-loop-member : goal.invariant-loop-member
 invariant-loop-member l =
     (members_whole (tree_members (drop l.member-index l.members)) ≡ true)
-    × (l.spelled.text.items ++ members_text l.later (tree_members (drop l.member-index l.members)) ≡ l.initial.spelled.text.items ++ members_text false (tree_members l.members))
+    × (l.spelled.text.items ++ members_text l.later (tree_members (drop l.member-index l.members)) ≡
+    l.initial.spelled.text.items ++ members_text false (tree_members l.members))
     × (AreMembersPrinted l.later (tree_members (drop l.member-index l.members)) → AreMembersPrinted false (tree_members l.members))
-    × (AreNoted l.initial.spelled.text.items (option_map (λ v. v.items) l.initial.spelled.variants) l.initial.spelled.metadata (tree_members l.members) (tree_members l.members)
-    → AreNoted l.spelled.text.items (option_map (λ v. v.items) l.spelled.variants) l.spelled.metadata (tree_members (drop l.member-index l.members)) (tree_members l.members))
+    × (AreNoted l.initial.spelled.text.items (option_map (λ v. v.items) l.initial.spelled.variants)
+    l.initial.spelled.metadata (tree_members l.members) (tree_members l.members)
+    → AreNoted l.spelled.text.items (option_map (λ v. v.items) l.spelled.variants) l.spelled.metadata
+    (tree_members (drop l.member-index l.members)) (tree_members l.members))

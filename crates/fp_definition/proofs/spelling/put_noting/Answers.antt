@@ -33,13 +33,18 @@ loop-member-preserved c =
     let named : string_bytes v.name ≡ m.0.now = search rules in
     let pushed = c.in_ok-push-2.ensures.items in (
       (and_parts (is_whole (tree_view m.1)) (members_whole rest) (ap members_whole (sym here) ∙ l.invariant.0)).1,
-      behind_name l.text.items _ new (comma_if l.later) (quoted m.0.now) bytes (members_text true rest) c.in_ok-put_name.ensures.text c.in_ok-put_text.ensures.text
+      behind_name l.text.items _ new (comma_if l.later) (quoted m.0.now) bytes (members_text true rest)
+          c.in_ok-put_name.ensures.text c.in_ok-put_text.ensures.text
           ∙ ap (λ ds. l.text.items ++ members_text l.later ds) (sym here) ∙ l.invariant.1,
-      λ h. l.invariant.2 (subst (AreMembersPrinted l.later) (sym here) (member_printed l.later m.0.now (tree_view m.1) rest c.in_ok-put_name.ensures.utf8 c.in_ok-put_text.ensures.printed h)),
+      λ h. l.invariant.2 (subst (AreMembersPrinted l.later) (sym here)
+          (member_printed l.later m.0.now (tree_view m.1) rest c.in_ok-put_name.ensures.utf8
+          c.in_ok-put_text.ensures.printed h)),
       ap (λ vs. spelled new vs (texts rest)) pushed
           ∙ noted_spelled l.text.items name new bytes l.variants.items v m.0.now (texts rest) grown l.invariant.4 named there.0
           ∙ ap (λ ms. spelled l.text.items l.variants.items (texts ms)) (sym here) ∙ l.invariant.3,
-      subst (AreWithin new) (sym pushed) (noted_within l.text.items name new bytes l.variants.items v m.0.now (texts rest) grown l.invariant.4 there.1),
+      subst (AreWithin new) (sym pushed)
+          (noted_within l.text.items name new bytes l.variants.items v m.0.now (texts rest) grown l.invariant.4
+          there.1),
     )
 
 pub returns-clause-printed : goal.returns-clause-printed
@@ -55,7 +60,8 @@ returns-clause-noted c =
     let none = drop_all l.member-index c.args.members.now (omega arith) in
     let grown = c.in_ok-push-3.ensures.items in record {
       spelled =
-          ap (λ xs. spelled xs l.variants.items no_members) grown ∙ spelled_more l.text.items (125 ∷ []) l.variants.items no_members l.invariant.4
+          ap (λ xs. spelled xs l.variants.items no_members) grown ∙
+          spelled_more l.text.items (125 ∷ []) l.variants.items no_members l.invariant.4
           ∙ ap (λ xs. spelled l.text.items l.variants.items (texts (tree_members xs))) (sym none) ∙ l.invariant.3;
       within = subst (λ xs. AreWithin xs l.variants.items) (sym grown) (all_more l.text.items (125 ∷ []) l.variants.items l.invariant.4);
     }

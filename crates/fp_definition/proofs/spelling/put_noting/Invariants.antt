@@ -10,7 +10,8 @@ use Rattle.fp_definition.proofs.spelling.put_noting.Given as goal
 abbrev pub invariant-loop-member : goal.invariant-loop-member
 invariant-loop-member l =
     (members_whole (tree_members (drop l.member-index l.members)) ≡ true)
-    × (l.text.items ++ members_text l.later (tree_members (drop l.member-index l.members)) ≡ l.initial.text.items ++ members_text false (tree_members l.members))
+    × (l.text.items ++ members_text l.later (tree_members (drop l.member-index l.members)) ≡ l.initial.text.items ++
+    members_text false (tree_members l.members))
     × (AreMembersPrinted l.later (tree_members (drop l.member-index l.members)) → AreMembersPrinted false (tree_members l.members))
     × (spelled l.text.items l.variants.items (texts (tree_members (drop l.member-index l.members))) ≡ texts (tree_members l.members))
     × AreWithin l.text.items l.variants.items

@@ -16,7 +16,8 @@ returns-then-is_same-clause-value c =
     let name = c.args.name.now in
     let text = c.args.text.now in
     let here : drop i xs ≡ m ∷ drop (i + 1) xs = drop-here xs i m (omega arith) c.variant-item.is in
-    sym (found-here name (string_bytes m.name) (string (at text m.value)) (spelled text (drop (i + 1) xs) no_members) (ap (λ n. bytes_eq n name) (sym c.as_str.ensures.value) ∙ sym c.is_same.ensures ∙ c.if-is_same.true))
+    sym (found-here name (string_bytes m.name) (string (at text m.value)) (spelled text (drop (i + 1) xs) no_members)
+    (ap (λ n. bytes_eq n name) (sym c.as_str.ensures.value) ∙ sym c.is_same.ensures ∙ c.if-is_same.true))
     ∙ ap (λ ys. get_member name (spelled text ys no_members)) (sym here)
     ∙ c.loop-variant.invariant.0
 
@@ -35,7 +36,9 @@ loop-variant-preserved c =
     let name = c.args.name.now in
     let text = c.args.text.now in
     let here : drop i xs ≡ m ∷ drop (i + 1) xs = drop-here xs i m (omega arith) c.variant-item.is in (
-      sym (found-later name (string_bytes m.name) (string (at text m.value)) (spelled text (drop (i + 1) xs) no_members) (ap (λ n. bytes_eq n name) (sym c.as_str.ensures.value) ∙ sym c.is_same.ensures ∙ c.if-is_same.false))
+      sym (found-later name (string_bytes m.name) (string (at text m.value))
+          (spelled text (drop (i + 1) xs) no_members)
+          (ap (λ n. bytes_eq n name) (sym c.as_str.ensures.value) ∙ sym c.is_same.ensures ∙ c.if-is_same.false))
           ∙ ap (λ ys. get_member name (spelled text ys no_members)) (sym here)
           ∙ c.loop-variant.invariant.0,
       (subst (AreWithin text) here c.loop-variant.invariant.1).1,

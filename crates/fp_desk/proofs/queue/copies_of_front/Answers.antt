@@ -15,7 +15,9 @@ loop-i-init c = (ap changes_of c.in_ok-copies.ensures.items, c.in_ok-copies.ensu
 pub loop-i-preserved : goal.loop-i-preserved
 loop-i-preserved c =
     let i = c.loop-i.invariant in let xs = c.args.waiting.now.items in (
-      copied_more xs c.loop-i.copies.items c.push_reserved.new.self.items c.loop-i.i c.index.result.now c.in_ok-try_copy.field-0 c.push_reserved.ensures.items i.0 c.in_ok-try_copy.ensures (let lt = c.loop-i-test.true in let le = c.requires in omega (arith, lt, le)) c.index.ensures,
+      copied_more xs c.loop-i.copies.items c.push_reserved.new.self.items c.loop-i.i c.index.result.now
+          c.in_ok-try_copy.field-0 c.push_reserved.ensures.items i.0 c.in_ok-try_copy.ensures
+          (let lt = c.loop-i-test.true in let le = c.requires in omega (arith, lt, le)) c.index.ensures,
       c.push_reserved.ensures.len ∙ ap (λ (k : ℕ). k + 1) i.1,
       subst (λ (k : ℕ). c.args.n ≤ k) (sym c.push_reserved.ensures.capacity) i.2,
     )

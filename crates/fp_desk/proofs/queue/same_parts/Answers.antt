@@ -10,7 +10,9 @@ pub returns-then-not-same_part : goal.returns-then-not-same_part
 returns-then-not-same_part c = (
   λ (yes : IsTrue false). absurd cc,
   λ all.
-      let one = same_at part_in c.args.changes.now c.args.others.now c.loop-i.i c.index-changes-i.result c.index-others-i.result c.loop-i-test.true c.index-changes-i.is c.index-others-i.is (sym (parts_are c.args.changes.now) ∙ all ∙ parts_are c.args.others.now) in
+      let one = same_at part_in c.args.changes.now c.args.others.now c.loop-i.i c.index-changes-i.result
+      c.index-others-i.result c.loop-i-test.true c.index-changes-i.is c.index-others-i.is
+      (sym (parts_are c.args.changes.now) ∙ all ∙ parts_are c.args.others.now) in
       let both : true ≡ false = sym (c.same_part.ensures.1 one) ∙ c.if-not-same_part.true in absurd cc,
 )
 
@@ -18,5 +20,6 @@ pub returns : goal.returns
 returns c =
     let mine = c.loop-i-test.false in let len = c.if-changes-others.false in
     let same : map part_in c.args.changes.now ≡ map part_in c.args.others.now =
-    ap (map part_in) (sym (take_all c.loop-i.i c.args.changes.now mine)) ∙ c.loop-i.invariant ∙ ap (map part_in) (take_all c.loop-i.i c.args.others.now (omega (arith, mine, len))) in
+    ap (map part_in) (sym (take_all c.loop-i.i c.args.changes.now mine)) ∙ c.loop-i.invariant ∙
+    ap (map part_in) (take_all c.loop-i.i c.args.others.now (omega (arith, mine, len))) in
     (λ _. parts_are c.args.changes.now ∙ same ∙ sym (parts_are c.args.others.now), λ _. refl)

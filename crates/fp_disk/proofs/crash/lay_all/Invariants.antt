@@ -8,5 +8,7 @@ invariant-loop-call l = record {
   len : length l.left ≡ length l.initial.left;
   number : l.number ≡ length (writes_after [] (take l.call-index l.calls));
   within : l.number ≤ l.call-index;
-  places : (k : ℕ) → k < length l.initial.left → slice_index l.left k ≡ byte_after_writes l.fills l.rest (writes_after [] (take l.call-index l.calls)) k (slice_index l.initial.left k);
+  places : (k : ℕ) → k < length l.initial.left →
+      slice_index l.left k ≡ byte_after_writes l.fills l.rest (writes_after [] (take l.call-index l.calls)) k
+      (slice_index l.initial.left k);
 }

@@ -19,14 +19,16 @@ unreachable-requires c = some_left (rw (c.in-Some.ensures.steps) at c.loop-key.i
 
 pub overflow_add-end : goal.overflow_add-end
 overflow_add-end c =
-    let within = ends_within (stepped c.loop-key.invariant.3 c.in-Some-split_first.ensures.cases.0 (ap entries_of c.in-Some.ensures.steps)) in
+    let within = ends_within (stepped c.loop-key.invariant.3 c.in-Some-split_first.ensures.cases.0
+    (ap entries_of c.in-Some.ensures.steps)) in
     let text = c.args.before.now.text in
     let small = text.small in
     let ok = text.ok in omega arith
 
 pub slice_bounds-old-end : goal.slice_bounds-old-end
 slice_bounds-old-end c =
-    let within = ends_within (stepped c.loop-key.invariant.3 c.in-Some-split_first.ensures.cases.0 (ap entries_of c.in-Some.ensures.steps)) in
+    let within = ends_within (stepped c.loop-key.invariant.3 c.in-Some-split_first.ensures.cases.0
+    (ap entries_of c.in-Some.ensures.steps)) in
     rw c.deref-then-flag-before.ensures.value within
 
 pub returns-in_default-new : goal.returns-in_default-new
@@ -43,11 +45,14 @@ loop-key-preserved-in_ok-push c =
     let i = c.loop-key.invariant in
     let u = stepped i.3 c.in-Some-split_first.ensures.cases.0 (ap entries_of c.in-Some.ensures.steps) in
     let told = rw c.in-Some-new.is at c.in_ok-new.ensures f.1.changed in
-    let copied = c.in_ok-extend_from_slice.ensures.items ∙ ap (λ l. out ++ take (c.loop-key.at - c.loop-key.from) (drop c.loop-key.from l)) c.deref.ensures.value ∙ ap (λ l. out ++ l) (gap_is u) in (
+    let copied = c.in_ok-extend_from_slice.ensures.items ∙
+    ap (λ l. out ++ take (c.loop-key.at - c.loop-key.from) (drop c.loop-key.from l)) c.deref.ensures.value ∙
+    ap (λ l. out ++ l) (gap_is u) in (
       i.0,
       i.1,
       i.2,
-      put_anew u c.if-flag-before.true (rw c.deref-then-flag-before.ensures.value at told.0) _ _ (told.1 ∙ ap (λ l. l ++ part c.loop-key.later f) copied)
+      put_anew u c.if-flag-before.true (rw c.deref-then-flag-before.ensures.value at told.0) _ _
+          (told.1 ∙ ap (λ l. l ++ part c.loop-key.later f) copied)
           (c.in_ok-push.ensures.items ∙ ap (λ n. c.loop-key.lengths.items ++ n ∷ []) told.2),
     )
 
@@ -64,7 +69,8 @@ returns c =
       record {
         text =
             c.in_ok-extend_from_slice-2.ensures.items
-            ∙ ap (λ l. c.loop-key.text.items ++ l) (take_rest c.deref-2.result.now c.loop-key.from ∙ ap (drop c.loop-key.from) c.deref-2.ensures.value)
+            ∙ ap (λ l. c.loop-key.text.items ++ l)
+            (take_rest c.deref-2.result.now c.loop-key.from ∙ ap (drop c.loop-key.from) c.deref-2.ensures.value)
             ∙ end.0;
         lengths = end.1;
       },

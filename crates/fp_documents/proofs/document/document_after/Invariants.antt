@@ -11,4 +11,5 @@ invariant-loop-key l =
     (es : List (List ℕ × Flag))
     × Outlines l.before es
     × HasAsMany l.before.revision es (entries_of l.flags.entries)
-    × Underway l.before.revision l.before.text.items l.left l.from l.at l.later l.text.items l.lengths.items (entries_of l.key-iterator) es (entries_of l.flags.entries)
+    × Underway l.before.revision l.before.text.items l.left l.from l.at l.later l.text.items l.lengths.items
+    (entries_of l.key-iterator) es (entries_of l.flags.entries)

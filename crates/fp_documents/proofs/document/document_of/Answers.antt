@@ -9,7 +9,8 @@ pub returns : goal.returns
 returns c =
     let es = entries_of c.args.flags.now.entries in
     let head = codes "{\"flags\":{" in
-    let start : c.extend_from_slice.new.self.items ≡ [] ++ head = c.in_ok-extend_from_slice.ensures.items ∙ ap (λ l. l ++ head) c.in_ok-text.ensures.items in (
+    let start : c.extend_from_slice.new.self.items ≡ [] ++ head = c.in_ok-extend_from_slice.ensures.items ∙
+    ap (λ l. l ++ head) c.in_ok-text.ensures.items in (
       record {
         text =
             c.in_ok-push.ensures.items

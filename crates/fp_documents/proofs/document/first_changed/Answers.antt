@@ -12,12 +12,19 @@ loop-key-init c =
     let flags = c.into_iter-key-iterator.ensures.into_iter_gives ∙ c.iter-key-items.ensures.rest in
     let before = c.args.document.now in
     let es = c.requires.0 in
-    rw flags (es, c.requires.1, c.requires.2, record { underway = begun before es (entries_of c.args.flags.now.entries) c.requires.1 c.requires.2 }, c.requires.3)
+    rw flags (
+      es,
+      c.requires.1,
+      c.requires.2,
+      record { underway = begun before es (entries_of c.args.flags.now.entries) c.requires.1 c.requires.2 },
+      c.requires.3,
+    )
 
 pub index-len-requires : goal.index-len-requires
 index-len-requires c =
     subst (λ n. c.loop-key.index < n) (sym c.args.document.now.lengths.ok.0)
-    (counted c.loop-key.invariant.3 (key_bytes c.in-Some.key.now, c.in-Some.flag.now) (entries_of c.next.new.self) (ap entries_of c.in-Some.ensures.steps))
+    (counted c.loop-key.invariant.3 (key_bytes c.in-Some.key.now, c.in-Some.flag.now) (entries_of c.next.new.self)
+    (ap entries_of c.in-Some.ensures.steps))
 
 pub returns-then-flag-document : goal.returns-then-flag-document
 returns-then-flag-document c =
@@ -45,13 +52,15 @@ returns-then-flag-document c =
 
 pub overflow_add-at : goal.overflow_add-at
 overflow_add-at c =
-    let reach = ends_within (goes_on c.loop-key.invariant.3 (key_bytes c.in-Some.key.now, c.in-Some.flag.now) (entries_of c.next.new.self) (ap entries_of c.in-Some.ensures.steps) _ _ c.index-len.ensures) in
+    let reach = ends_within (goes_on c.loop-key.invariant.3 (key_bytes c.in-Some.key.now, c.in-Some.flag.now)
+    (entries_of c.next.new.self) (ap entries_of c.in-Some.ensures.steps) _ _ c.index-len.ensures) in
     let small = c.args.document.now.text.small in
     let ok = c.args.document.now.text.ok in omega arith
 
 pub overflow_add-index : goal.overflow_add-index
 overflow_add-index c =
-    let more = counted c.loop-key.invariant.3 (key_bytes c.in-Some.key.now, c.in-Some.flag.now) (entries_of c.next.new.self) (ap entries_of c.in-Some.ensures.steps) in
+    let more = counted c.loop-key.invariant.3 (key_bytes c.in-Some.key.now, c.in-Some.flag.now)
+    (entries_of c.next.new.self) (ap entries_of c.in-Some.ensures.steps) in
     let small = c.args.document.now.lengths.small in
     let ok = c.args.document.now.lengths.ok in omega arith
 

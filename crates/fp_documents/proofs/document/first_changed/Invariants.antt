@@ -11,5 +11,6 @@ invariant-loop-key l =
     (es : List (List ℕ × Flag))
     × Outlines l.document es
     × HasAsMany l.document.revision es (entries_of l.flags.entries)
-    × Standing l.document.revision l.document.text.items l.document.lengths.items l.at l.index l.later (entries_of l.key-iterator) es (entries_of l.flags.entries)
+    × Standing l.document.revision l.document.text.items l.document.lengths.items l.at l.index l.later
+    (entries_of l.key-iterator) es (entries_of l.flags.entries)
     × (changed_after l.document.revision (entries_of l.key-iterator) ≤ 1)

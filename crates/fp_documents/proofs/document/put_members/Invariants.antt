@@ -8,6 +8,8 @@ use Rattle.fp_documents.proofs.document.put_members.Given as goal
 -- what is written, and the text of what is left, are the text of all; and so are the lengths
 abbrev pub invariant-loop-key : goal.invariant-loop-key
 invariant-loop-key l = record {
-  members : l.out.items ++ members_text l.later (members_of (entries_of l.key-iterator)) ≡ l.initial.out.items ++ members_text false (members_of (entries_of l.flags.entries));
-  lengths : l.lengths.items ++ part_lengths l.later (entries_of l.key-iterator) ≡ l.initial.lengths.items ++ part_lengths false (entries_of l.flags.entries);
+  members : l.out.items ++ members_text l.later (members_of (entries_of l.key-iterator)) ≡ l.initial.out.items ++
+      members_text false (members_of (entries_of l.flags.entries));
+  lengths : l.lengths.items ++ part_lengths l.later (entries_of l.key-iterator) ≡ l.initial.lengths.items ++
+      part_lengths false (entries_of l.flags.entries);
 }

@@ -20,4 +20,8 @@ drained s xs d = given s d.1.0 xs d.1.1 ∙ ap (λ l. xs ++ l) (empty d.1.0 d.1.
 pub returns : goal.returns
 returns c =
     let all = c.in_ok-splice.ensures.items in
-    record { replaced = all.4 ∙ ap (splice c.args.text.now.items c.args.from c.args.to) (sym (drained all.0 all.1 all.3) ∙ all.2.0); unchanged = tt }
+    record {
+      replaced = all.4 ∙ ap (splice c.args.text.now.items c.args.from c.args.to)
+          (sym (drained all.0 all.1 all.3) ∙ all.2.0);
+      unchanged = tt;
+    }

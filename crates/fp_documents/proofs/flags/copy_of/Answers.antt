@@ -18,7 +18,8 @@ loop-key-preserved c =
     let rest = entries_of c.next.new.self in
     let left = ap (λ es. entries_of c.loop-key.pairs.items ++ entries_of es) (sym c.in-Some.ensures.steps) ∙ c.loop-key.invariant in
     ap (λ es. entries_of es ++ rest) c.in_ok-push.ensures.items
-    ∙ copied_more c.loop-key.pairs.items e k f rest (entries_of c.args.flags.now.entries) c.in_ok-try_copy-2.ensures (ap (λ d. record { definition = d; changed = changed }) c.in_ok-try_copy.ensures) left
+    ∙ copied_more c.loop-key.pairs.items e k f rest (entries_of c.args.flags.now.entries) c.in_ok-try_copy-2.ensures
+    (ap (λ d. record { definition = d; changed = changed }) c.in_ok-try_copy.ensures) left
 
 pub returns-clause-copied : goal.returns-clause-copied
 returns-clause-copied c =
@@ -28,4 +29,6 @@ returns-clause-copied c =
     let made : IsFromIterResult flag_cmp xs n = search rules in
     let same : entries_of xs ≡ entries_of all =
     sym (append-nil (entries_of xs)) ∙ ap (λ es. entries_of xs ++ entries_of es) (sym c.in-None.ensures.steps.0) ∙ c.loop-key.invariant in
-    ap fin.from_entries (entries-collected xs n made (subst (λ es. T (is_sorted bytes_cmp es)) (sym same) (is_sorted-mapped all c.iter-key-items.ensures.ordered)) ∙ same)
+    ap fin.from_entries (entries-collected xs n made
+    (subst (λ es. T (is_sorted bytes_cmp es)) (sym same) (is_sorted-mapped all c.iter-key-items.ensures.ordered))
+    ∙ same)

@@ -8,10 +8,12 @@ use Rattle.fp_documents.proofs.Maps.{flags_of-insert, get-flags_of}
 use Rattle.fp_documents.proofs.flags.store.Goals as goal
 
 pub returns-in-Ok-Some-clause-stored : goal.returns-in-Ok-Some-clause-stored
-returns-in-Ok-Some-clause-stored c = ap flags_of c.in-Ok-Some.ensures.entries ∙ flags_of-insert c.args.flags.now.entries c.args.key c.args.flag
+returns-in-Ok-Some-clause-stored c = ap flags_of c.in-Ok-Some.ensures.entries ∙
+    flags_of-insert c.args.flags.now.entries c.args.key c.args.flag
 
 pub returns-in-Ok-None-clause-stored : goal.returns-in-Ok-None-clause-stored
-returns-in-Ok-None-clause-stored c = ap flags_of c.in-Ok-None.ensures.entries ∙ flags_of-insert c.args.flags.now.entries c.args.key c.args.flag
+returns-in-Ok-None-clause-stored c = ap flags_of c.in-Ok-None.ensures.entries ∙
+    flags_of-insert c.args.flags.now.entries c.args.key c.args.flag
 
 pub returns-in-Ok-Some-clause-before : goal.returns-in-Ok-Some-clause-before
 returns-in-Ok-Some-clause-before c =

@@ -6,4 +6,5 @@ use Rattle.fp_edit.proofs.changes.is_among.Given as goal
 
 -- what is left decides
 abbrev pub invariant-loop-change : goal.invariant-loop-change
-invariant-loop-change l = is_among (key_bytes l.key) (keys_of l.changes) ≡ is_among (key_bytes l.key) (keys_of (drop l.change-index l.changes))
+invariant-loop-change l = is_among (key_bytes l.key) (keys_of l.changes) ≡ is_among (key_bytes l.key)
+    (keys_of (drop l.change-index l.changes))

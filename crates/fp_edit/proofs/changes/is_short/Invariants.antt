@@ -7,4 +7,5 @@ use Rattle.fp_edit.proofs.changes.is_short.Given as goal
 
 -- what has been counted and what is left to count are all
 abbrev pub invariant-loop-change : goal.invariant-loop-change
-invariant-loop-change l = l.left + set_len (parts_of (map proposed_of l.changes)) ≡ LONGEST_EDIT + sum_by part_len (parts_of (map proposed_of (drop l.change-index l.changes)))
+invariant-loop-change l = l.left + set_len (parts_of (map proposed_of l.changes)) ≡ LONGEST_EDIT + sum_by part_len
+    (parts_of (map proposed_of (drop l.change-index l.changes)))

@@ -11,4 +11,5 @@ pub loop-edit-preserved : goal.loop-edit-preserved
 loop-edit-preserved c = λ s is.
     let l = c.loop-edit in let k = key_bytes c.args.key.now in
     c.key_cost-cost.ensures (after_all s (changes_of (take l.edit-index c.args.edits.now))) (l.invariant s is)
-    ∙ ap (λ (t : State). cost_found k (map.get t.flags k)) (sym (one_after s c.args.edits.now l.edit-index c.edit-item.result c.loop-edit-test.true c.edit-item.is))
+    ∙ ap (λ (t : State). cost_found k (map.get t.flags k))
+    (sym (one_after s c.args.edits.now l.edit-index c.edit-item.result c.loop-edit-test.true c.edit-item.is))

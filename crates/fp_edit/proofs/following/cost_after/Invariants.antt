@@ -7,4 +7,6 @@ use Rattle.fp_edit.specs.Log.{after_all}
 use Rattle.fp_edit.proofs.following.cost_after.Given as goal
 
 abbrev pub invariant-loop-edit : goal.invariant-loop-edit
-invariant-loop-edit l = (s : State) → l.before ≡ cost_found (key_bytes l.key) (map.get s.flags (key_bytes l.key)) → l.cost ≡ cost_found (key_bytes l.key) (map.get (after_all s (changes_of (take l.edit-index l.edits))).flags (key_bytes l.key))
+invariant-loop-edit l = (s : State) → l.before ≡ cost_found (key_bytes l.key) (map.get s.flags (key_bytes l.key)) →
+    l.cost ≡ cost_found (key_bytes l.key)
+    (map.get (after_all s (changes_of (take l.edit-index l.edits))).flags (key_bytes l.key))

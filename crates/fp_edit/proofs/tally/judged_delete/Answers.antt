@@ -10,4 +10,5 @@ returns c = λ s t found.
     let there : 0 < c.args.found = omega (arith, never) in
     let some = c.requires.some there in
     let within = c.requires.found in
-    delete_accepted t (key_bytes c.args.key.now) c.args.found found (omega (arith, left)) there (c.args.tally.count - 1) (c.args.tally.size - c.args.found) (omega (arith, some)) (omega (arith, within))
+    delete_accepted t (key_bytes c.args.key.now) c.args.found found (omega (arith, left)) there
+    (c.args.tally.count - 1) (c.args.tally.size - c.args.found) (omega (arith, some)) (omega (arith, within))

@@ -18,7 +18,8 @@ pub returns-else-are_same : goal.returns-else-are_same
 returns-else-are_same c = λ s before.
     let k = key_bytes c.args.key.now in
     let own = key_bytes c.in-Put.its in
-    before ∙ sym (cost-other s (change_of c.args.edit.now) (put own c.in-Put.flag) k (ap change_of c.in-Put.is) (apart k own (sym c.are_same.ensures ∙ c.if-are_same.false)))
+    before ∙ sym (cost-other s (change_of c.args.edit.now) (put own c.in-Put.flag) k (ap change_of c.in-Put.is)
+    (apart k own (sym c.are_same.ensures ∙ c.if-are_same.false)))
 
 pub returns-then-are_same-2 : goal.returns-then-are_same-2
 returns-then-are_same-2 c = λ s before.
@@ -31,4 +32,5 @@ pub returns-else-are_same-2 : goal.returns-else-are_same-2
 returns-else-are_same-2 c = λ s before.
     let k = key_bytes c.args.key.now in
     let own = key_bytes c.in-Delete.its in
-    before ∙ sym (cost-other s (change_of c.args.edit.now) (delete own) k (ap change_of c.in-Delete.is) (apart k own (sym c.are_same-in-Delete.ensures ∙ c.if-are_same-2.false)))
+    before ∙ sym (cost-other s (change_of c.args.edit.now) (delete own) k (ap change_of c.in-Delete.is)
+    (apart k own (sym c.are_same-in-Delete.ensures ∙ c.if-are_same-2.false)))

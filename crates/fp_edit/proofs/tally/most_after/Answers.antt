@@ -19,10 +19,14 @@ returns-in-Put c = λ s b.
     let few : fin.len s.flags ≤ c.sums_of.result.count = omega (arith, few_was, n) in
     let short : size s.flags ≤ c.sums_of.result.size = omega (arith, short_was, m) in
     let most = c.most_with.ensures s few short in
-    subst (λ (y : Change). IfSome c.judged_sums.result (λ t. (refusal s (unconditional y) ≡ None) × IsTallyAbove t (next s y))) (sym (ap change_of c.in-Put.is))
+    subst (λ (y : Change). IfSome c.judged_sums.result
+    (λ t. (refusal s (unconditional y) ≡ None) × IsTallyAbove t (next s y))) (sym (ap change_of c.in-Put.is))
     (c.judged_sums.ensures.most refl s x b refl most.0 most.1)
 
 pub returns-in-Set : goal.returns-in-Set
 returns-in-Set c = λ s b.
-    let all : change_of c.args.edit.now ≡ set (parts_in c.as_slice.result.now) = ap change_of c.in-Set.is ∙ ap (λ ps. set (parts_of ps)) (sym c.as_slice.ensures.changes) in
-    subst (λ (y : Change). IfSome c.most_after_all.result (λ t. (refusal s (unconditional y) ≡ None) × IsTallyAbove t (next s y))) (sym all) (c.most_after_all.ensures s b)
+    let all : change_of c.args.edit.now ≡ set (parts_in c.as_slice.result.now) = ap change_of c.in-Set.is ∙
+    ap (λ ps. set (parts_of ps)) (sym c.as_slice.ensures.changes) in
+    subst (λ (y : Change). IfSome c.most_after_all.result
+    (λ t. (refusal s (unconditional y) ≡ None) × IsTallyAbove t (next s y))) (sym all)
+    (c.most_after_all.ensures s b)

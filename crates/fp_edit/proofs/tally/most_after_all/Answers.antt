@@ -18,4 +18,5 @@ returns c = λ s b.
     let few : fin.len s.flags ≤ c.sums_of.result.count = omega (arith, few_was, n) in
     let short : size s.flags ≤ c.sums_of.result.size = omega (arith, short_was, m) in
     let most = c.in_ok-sums.ensures.most s few short in
-    c.judged_sums.ensures.most refl s (set ps) b (from_all_expected s 0 (map free ps) (puts_expected s ps c.in_ok-sums.ensures.puts)) most.0 most.1
+    c.judged_sums.ensures.most refl s (set ps) b
+    (from_all_expected s 0 (map free ps) (puts_expected s ps c.in_ok-sums.ensures.puts)) most.0 most.1

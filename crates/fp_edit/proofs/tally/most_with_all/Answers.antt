@@ -24,7 +24,8 @@ loop-change-preserved c =
     let was_short = u.short in
     let one = grown.0 in
     let long = grown.1 in record {
-      puts = subst (λ (qs : List Part). AllByRecursion (λ (q : Part). is_put q ≡ true) qs) (sym (take-here ps i p within is)) (puts_last (take i ps) p u.puts put_is);
+      puts = subst (λ (qs : List Part). AllByRecursion (λ (q : Part). is_put q ≡ true) qs)
+          (sym (take-here ps i p within is)) (puts_last (take i ps) p u.puts put_is);
       above = λ s count bytes.
           let r = s.revision + 1 in
           let more = parts_after-more ps i p within is r s.flags in
@@ -41,11 +42,13 @@ pub returns-clause-puts : goal.returns-clause-puts
 returns-clause-puts c =
     let ps = parts_in c.args.changes.now in
     let ended : length ps ≤ c.loop-change.change-index = rw (length-parts_in) c.loop-change-test.false in
-    subst (λ (qs : List Part). AllByRecursion (λ (q : Part). is_put q ≡ true) qs) (take_all c.loop-change.change-index ps ended) c.loop-change.invariant.puts
+    subst (λ (qs : List Part). AllByRecursion (λ (q : Part). is_put q ≡ true) qs)
+    (take_all c.loop-change.change-index ps ended) c.loop-change.invariant.puts
 
 pub returns-clause-most : goal.returns-clause-most
 returns-clause-most c = λ s count bytes.
     let ps = parts_in c.args.changes.now in
     let ended : length ps ≤ c.loop-change.change-index = rw (length-parts_in) c.loop-change-test.false in
-    subst (λ (qs : List Part). (fin.len (parts_after (s.revision + 1) s.flags qs) ≤ c.loop-change.most.count) × (size (parts_after (s.revision + 1) s.flags qs) ≤ c.loop-change.most.size))
+    subst (λ (qs : List Part). (fin.len (parts_after (s.revision + 1) s.flags qs) ≤ c.loop-change.most.count) ×
+    (size (parts_after (s.revision + 1) s.flags qs) ≤ c.loop-change.most.size))
     (take_all c.loop-change.change-index ps ended) (c.loop-change.invariant.above s count bytes)

@@ -11,7 +11,9 @@ returns-in-Set c = (
   λ h. absurd (cc h),
   λ all.
       let edits = c.deref-edit-items.result.now in
-      let here = subst (λ (l : List Edit). AllByRecursion (IsAllowed c.args.version) (changes_of l)) (sym c.deref-edit-items.ensures.value) (subst (λ d. AllByRecursion (IsAllowed c.args.version) d.changes) (sym c.draw.view_is) all) in
+      let here = subst (λ (l : List Edit). AllByRecursion (IsAllowed c.args.version) (changes_of l))
+      (sym c.deref-edit-items.ensures.value)
+      (subst (λ d. AllByRecursion (IsAllowed c.args.version) d.changes) (sym c.draw.view_is) all) in
       let one = allowed_at c.args.version edits c.loop-edit.edit-index c.edit-item.result c.loop-edit-test.true here in
       let set = subst (λ (e : Edit). IsAllowed c.args.version (change_of e)) (sym c.edit-item.is ∙ c.in-Set.is) one in
       let first = c.if-version-gt-FIRST_VERSION.false in absurd (omega (arith, set, first)),

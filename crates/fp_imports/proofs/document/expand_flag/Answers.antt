@@ -48,8 +48,11 @@ returns-in-Ok-clause-made c =
     let place = subst (λ es. IsPlaceOf (codes "targeting") es c.in-Some.at) c.deref.ensures.value c.in-Some.ensures.found in
     let walk : whole_expansion evaluators (tree_view m.1) ≡ Ok (tree_view c.in-Ok.targeting, c.in-Ok.field-0-1) = c.in-Ok.ensures.made in
     ap (flag_expansion evaluators) shape
-    ∙ targeting-put evaluators ms (tree_view m.1) (found-at place ordered.0 m c.index-2.ensures) (tree_view c.in-Ok.targeting) c.in-Ok.field-0-1 walk
-    ∙ ap (λ es. Ok (object es)) (sym (put-at place ordered.0 c.index_mut.result.now c.index_mut.ensures.value c.in-Ok.targeting)) ∙ ap Ok (sym (view-Object _))
+    ∙ targeting-put evaluators ms (tree_view m.1) (found-at place ordered.0 m c.index-2.ensures)
+    (tree_view c.in-Ok.targeting) c.in-Ok.field-0-1 walk
+    ∙ ap (λ es. Ok (object es)) (sym
+    (put-at place ordered.0 c.index_mut.result.now c.index_mut.ensures.value c.in-Ok.targeting)) ∙
+    ap Ok (sym (view-Object _))
 
 pub returns-in-Ok-clause-ordered : goal.returns-in-Ok-clause-ordered
 returns-in-Ok-clause-ordered c =
@@ -70,6 +73,8 @@ returns-clause-made c =
     let shape : tree_view c.args.flag ≡ object ms = ap tree_view c.in-Object.is ∙ view-Object v in
     let ordered = subst IsOrdered shape c.requires.flag in
     let place = subst (λ es. IsPlaceOf (codes "targeting") es c.in-Some.at) c.deref.ensures.value c.in-Some.ensures.found in
-    gives_err {A = Tree × ℕ} {C = Tree} (with_rest tree_view) tree_view c.in-Err.fault (whole_expansion evaluators (tree_view m.1)) (flag_expansion evaluators (tree_view c.args.flag))
+    gives_err {A = Tree × ℕ} {C = Tree} (with_rest tree_view) tree_view c.in-Err.fault
+    (whole_expansion evaluators (tree_view m.1)) (flag_expansion evaluators (tree_view c.args.flag))
     c.in-Err.ensures.made
-    (λ x h. ap (flag_expansion evaluators) shape ∙ targeting-broken evaluators ms (tree_view m.1) (found-at place ordered.0 m c.index-2.ensures) x h)
+    (λ x h. ap (flag_expansion evaluators) shape ∙
+    targeting-broken evaluators ms (tree_view m.1) (found-at place ordered.0 m c.index-2.ensures) x h)

@@ -29,17 +29,22 @@ loop-name-preserved c =
     let short = ap length here in
     let was = l.invariant.1 in
     let can = subst (λ es. MembersAreOrdered (tree_members es)) here l.invariant.4 in
-    let one : flag_of evaluators k d ≡ Ok f = subst (λ r. Gives seen_flag Tells r (flag_of evaluators k d)) c.in-Ok.is c.flag_named.ensures in
+    let one : flag_of evaluators k d ≡ Ok f =
+    subst (λ r. Gives seen_flag Tells r (flag_of evaluators k d)) c.in-Ok.is c.flag_named.ensures in
     let items = c.in_ok-push-in-Ok.ensures.items in (
       done ++ e ∷ [],
       omega arith,
       l.invariant.2 ∙ ap (λ es. done ++ es) here ∙ sym (append_assoc done (e ∷ []) left),
       ap (λ fs. map key_bytes (keys_of fs)) items ∙ keys-one l.found.items c.in-Ok.made
-          ∙ ap (λ ns. ns ++ f.0 ∷ []) l.invariant.3 ∙ ap (λ n. names (tree_members done) ++ n ∷ []) (flag-named evaluators k d f one) ∙ sym (names-one done e),
+          ∙ ap (λ ns. ns ++ f.0 ∷ []) l.invariant.3 ∙
+          ap (λ n. names (tree_members done) ++ n ∷ []) (flag-named evaluators k d f one) ∙
+          sym (names-one done e),
       can.1,
       ap (λ fs. after_flags fs others) (ap (map seen_flag) items ∙ map-append seen_flag l.found.items (c.in-Ok.made ∷ []))
           ∙ after_flags-one (map seen_flag l.found.items) f others
-          ∙ ap (after_flags (map seen_flag l.found.items)) (sym (ap (λ es. flags_of evaluators (tree_members es)) here ∙ flags-ok evaluators k d (tree_members left) f one))
+          ∙ ap (after_flags (map seen_flag l.found.items))
+          (sym (ap (λ es. flags_of evaluators (tree_members es)) here ∙
+          flags-ok evaluators k d (tree_members left) f one))
           ∙ l.invariant.5,
     )
 
@@ -51,4 +56,5 @@ returns-clause-ascending c =
     let was = l.invariant.1 in
     let over : into_iter_items l.name-iterator ≡ [] = drop_all 0 (into_iter_items l.name-iterator) (omega arith) in
     let all : c.args.flags.items ≡ done = l.invariant.2 ∙ ap (λ es. done ++ es) over ∙ append-nil done in
-    ascending_keys (keys_of l.found.items) (tree_members c.args.flags.items) (l.invariant.3 ∙ ap (λ es. names (tree_members es)) (sym all)) c.requires.flags.0
+    ascending_keys (keys_of l.found.items) (tree_members c.args.flags.items)
+    (l.invariant.3 ∙ ap (λ es. names (tree_members es)) (sym all)) c.requires.flags.0

@@ -13,7 +13,9 @@ returns-then-eq-clause-found c =
     let x = c.index-members-at.result in
     record {
       within = c.loop-at-test.true;
-      named = λ m is. ap (λ (y : Entry). y.0.now) (same-place c.args.members.now c.loop-at.at m x c.loop-at-test.true is c.index-members-at.is) ∙ (bytes_eq-Decides x.0.now c.args.name.now).0 (search rules);
+      named = λ m is. ap (λ (y : Entry). y.0.now)
+          (same-place c.args.members.now c.loop-at.at m x c.loop-at-test.true is c.index-members-at.is) ∙
+          (bytes_eq-Decides x.0.now c.args.name.now).0 (search rules);
     }
 
 pub loop-at-preserved : goal.loop-at-preserved
@@ -29,4 +31,5 @@ loop-at-preserved c =
 
 pub returns-clause-none : goal.returns-clause-none
 returns-clause-none c = λ _.
-    sym c.loop-at.invariant ∙ ap (λ ys. get_member c.args.name.now (tree_members ys)) (drop_all c.loop-at.at c.args.members.now c.loop-at-test.false)
+    sym c.loop-at.invariant ∙ ap (λ ys. get_member c.args.name.now (tree_members ys))
+    (drop_all c.loop-at.at c.args.members.now c.loop-at-test.false)

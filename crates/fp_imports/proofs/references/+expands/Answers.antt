@@ -1,4 +1,5 @@
-use Rattle.std.proofs.Common.{◌≡◌, ℕ, [], Vec, Global, suc, ◌+◌, ◌*◌, ◌-◌, ◌≤◌, ◌∷◌, drop, map, Some, None, Ok, Err, option_map, sym, ap, ◌∙◌, subst, arith}
+use Rattle.std.proofs.Common.{◌≡◌, ℕ, [], Vec, Global, suc, ◌+◌, ◌*◌, ◌-◌, ◌≤◌, ◌∷◌, drop, map, Some, None, Ok, Err}
+use Rattle.std.proofs.Common.{option_map, sym, ap, ◌∙◌, subst, arith}
 use Rattle.std.proofs.lemmas.List.{drop_all, map-append}
 use Rattle.serde_json.specs.Data.{Members, array, object, depth, items_depth, members_depth}
 use Rattle.serde_json.specs.Find.{get_member}
@@ -13,7 +14,9 @@ use Rattle.fp_base.proofs.Turns.{drop-here}
 use Rattle.fp_imports.specs.References.{unknown, onward, expansion, items_expansion, members_expansion, replacement, reference}
 use Rattle.fp_imports.specs.Faults.{TellsBroken, with_rest}
 use Rattle.fp_base.proofs.Views.{view-Array, view-Object}
-use Rattle.fp_imports.proofs.Walks.{after_items, after_members, after_items-one, after_members-one, gives_err, item_depth, member_depth, falls_part, falls_reference, falls_replaced, at_reference, at_name, at_array, at_object, at_full, items_err, items_ok, members_err, members_ok}
+use Rattle.fp_imports.proofs.Walks.{after_items, after_members, after_items-one, after_members-one, gives_err}
+use Rattle.fp_imports.proofs.Walks.{item_depth, member_depth, falls_part, falls_reference, falls_replaced, at_reference}
+use Rattle.fp_imports.proofs.Walks.{at_name, at_array, at_object, at_full, items_err, items_ok, members_err, members_ok}
 use Rattle.fp_imports.proofs.references.+expands.Goals as goal
 
 pub expand_items-expand_value-requires : goal.expand_items-expand_value-requires
@@ -21,9 +24,14 @@ expand_items-expand_value-requires t c =
     let top = members_depth (tree_members c.args.evaluators.now) in
     let ts = c.deref-item-items.result.now in
     let x = c.item-item.result in
-    let first : depth (tree_view x) ≤ items_depth (tree_items ts) = subst (λ y. depth (tree_view y) ≤ items_depth (tree_items ts)) (sym c.item-item.is) (item_depth ts c.loop-item.item-index x (omega arith)) in
-    let inner = subst (λ xs. depth (tree_view x) ≤ items_depth (tree_items xs)) c.deref-item-items.ensures.value first in
-    (falls_part (c.args.more * suc top) (depth (tree_view x)) (items_depth (tree_items c.args.items.now.items)) t (sym c.decreases) inner, c.requires)
+    let first : depth (tree_view x) ≤ items_depth (tree_items ts) =
+    subst (λ y. depth (tree_view y) ≤ items_depth (tree_items ts)) (sym c.item-item.is)
+    (item_depth ts c.loop-item.item-index x (omega arith)) in
+    let inner = subst (λ xs. depth (tree_view x) ≤ items_depth (tree_items xs)) c.deref-item-items.ensures.value first in (
+      falls_part (c.args.more * suc top) (depth (tree_view x)) (items_depth (tree_items c.args.items.now.items)) t
+          (sym c.decreases) inner,
+      c.requires,
+    )
 
 pub expand_items-returns-in-Err : goal.expand_items-returns-in-Err
 expand_items-returns-in-Err t c =
@@ -33,10 +41,13 @@ expand_items-returns-in-Err t c =
     let x = c.item-item.result in
     let rest = drop (l.item-index + 1) ts in
     let here : drop l.item-index ts ≡ x ∷ rest = drop-here ts l.item-index x (omega arith) c.item-item.is in
-    gives_err {C = Vec Tree Global × ℕ} (with_rest tree_view) (with_rest (λ w. map tree_view w.items)) c.in-Err.fault (expansion at (tree_view x) l.unused) (items_expansion at (tree_items c.args.items.now.items) c.args.left)
+    gives_err {C = Vec Tree Global × ℕ} (with_rest tree_view) (with_rest (λ w. map tree_view w.items)) c.in-Err.fault
+    (expansion at (tree_view x) l.unused) (items_expansion at (tree_items c.args.items.now.items) c.args.left)
     (subst (λ r. Gives (with_rest tree_view) TellsBroken r (expansion at (tree_view x) l.unused)) c.in-Err.is c.expand_value.ensures)
     (λ e h. ap (λ ys. items_expansion at (tree_items ys) c.args.left) (sym c.deref-item-items.ensures.value) ∙ sym l.invariant
-    ∙ ap (after_items (map tree_view l.found.items)) (ap (λ ys. items_expansion at (tree_items ys) l.unused) here ∙ items_err at (tree_view x) (tree_items rest) l.unused e h))
+    ∙ ap (after_items (map tree_view l.found.items))
+    (ap (λ ys. items_expansion at (tree_items ys) l.unused) here ∙
+    items_err at (tree_view x) (tree_items rest) l.unused e h))
 
 pub expand_items-loop-item-preserved : goal.expand_items-loop-item-preserved
 expand_items-loop-item-preserved t c =
@@ -48,10 +59,14 @@ expand_items-loop-item-preserved t c =
     let rest = drop (l.item-index + 1) ts in
     let next = items_expansion at (tree_items rest) c.in-Ok.rest in
     let here : drop l.item-index ts ≡ x ∷ rest = drop-here ts l.item-index x (omega arith) c.item-item.is in
-    let walk : expansion at (tree_view x) l.unused ≡ Ok (tree_view made, c.in-Ok.rest) = subst (λ r. Gives (with_rest tree_view) TellsBroken r (expansion at (tree_view x) l.unused)) c.in-Ok.is c.expand_value.ensures in
+    let walk : expansion at (tree_view x) l.unused ≡ Ok (tree_view made, c.in-Ok.rest) =
+    subst (λ r. Gives (with_rest tree_view) TellsBroken r (expansion at (tree_view x) l.unused)) c.in-Ok.is
+    c.expand_value.ensures in
     ap (λ ys. after_items ys next) (ap (map tree_view) c.in_ok-push-in-Ok.ensures.items ∙ map-append tree_view l.found.items (made ∷ []))
     ∙ after_items-one (map tree_view l.found.items) (tree_view made) next
-    ∙ ap (after_items (map tree_view l.found.items)) (sym (ap (λ ys. items_expansion at (tree_items ys) l.unused) here ∙ items_ok at (tree_view x) (tree_items rest) l.unused (tree_view made) c.in-Ok.rest walk))
+    ∙ ap (after_items (map tree_view l.found.items))
+    (sym (ap (λ ys. items_expansion at (tree_items ys) l.unused) here ∙
+    items_ok at (tree_view x) (tree_items rest) l.unused (tree_view made) c.in-Ok.rest walk))
     ∙ l.invariant
 
 pub expand_members-expand_value-requires : goal.expand_members-expand_value-requires
@@ -59,9 +74,14 @@ expand_members-expand_value-requires t c =
     let top = members_depth (tree_members c.args.evaluators.now) in
     let ms = c.deref-member-items.result.now in
     let m = c.member-item.result in
-    let first : depth (tree_view m.1) ≤ members_depth (tree_members ms) = subst (λ (y : Entry). depth (tree_view y.1) ≤ members_depth (tree_members ms)) (sym c.member-item.is) (member_depth ms c.loop-member.member-index m (omega arith)) in
-    let inner = subst (λ xs. depth (tree_view m.1) ≤ members_depth (tree_members xs)) c.deref-member-items.ensures.value first in
-    (falls_part (c.args.more * suc top) (depth (tree_view m.1)) (members_depth (tree_members c.args.members.now.items)) t (sym c.decreases) inner, c.requires)
+    let first : depth (tree_view m.1) ≤ members_depth (tree_members ms) =
+    subst (λ (y : Entry). depth (tree_view y.1) ≤ members_depth (tree_members ms)) (sym c.member-item.is)
+    (member_depth ms c.loop-member.member-index m (omega arith)) in
+    let inner = subst (λ xs. depth (tree_view m.1) ≤ members_depth (tree_members xs)) c.deref-member-items.ensures.value first in (
+      falls_part (c.args.more * suc top) (depth (tree_view m.1))
+          (members_depth (tree_members c.args.members.now.items)) t (sym c.decreases) inner,
+      c.requires,
+    )
 
 pub expand_members-returns-in-Err : goal.expand_members-returns-in-Err
 expand_members-returns-in-Err t c =
@@ -71,10 +91,14 @@ expand_members-returns-in-Err t c =
     let m = c.member-item.result in
     let rest = drop (l.member-index + 1) ms in
     let here : drop l.member-index ms ≡ m ∷ rest = drop-here ms l.member-index m (omega arith) c.member-item.is in
-    gives_err {C = Vec Entry Global × ℕ} (with_rest tree_view) (with_rest (λ w. tree_members w.items)) c.in-Err.fault (expansion at (tree_view m.1) l.unused) (members_expansion at (tree_members c.args.members.now.items) c.args.left)
+    gives_err {C = Vec Entry Global × ℕ} (with_rest tree_view) (with_rest (λ w. tree_members w.items)) c.in-Err.fault
+    (expansion at (tree_view m.1) l.unused)
+    (members_expansion at (tree_members c.args.members.now.items) c.args.left)
     (subst (λ r. Gives (with_rest tree_view) TellsBroken r (expansion at (tree_view m.1) l.unused)) c.in-Err.is c.expand_value.ensures)
     (λ e h. ap (λ ys. members_expansion at (tree_members ys) c.args.left) (sym c.deref-member-items.ensures.value) ∙ sym l.invariant
-    ∙ ap (after_members (tree_members l.found.items)) (ap (λ ys. members_expansion at (tree_members ys) l.unused) here ∙ members_err at m.0.now (tree_view m.1) (tree_members rest) l.unused e h))
+    ∙ ap (after_members (tree_members l.found.items))
+    (ap (λ ys. members_expansion at (tree_members ys) l.unused) here ∙
+    members_err at m.0.now (tree_view m.1) (tree_members rest) l.unused e h))
 
 pub expand_members-loop-member-preserved : goal.expand_members-loop-member-preserved
 expand_members-loop-member-preserved t c =
@@ -86,92 +110,129 @@ expand_members-loop-member-preserved t c =
     let rest = drop (l.member-index + 1) ms in
     let next = members_expansion at (tree_members rest) c.in-Ok.rest in
     let here : drop l.member-index ms ≡ m ∷ rest = drop-here ms l.member-index m (omega arith) c.member-item.is in
-    let walk : expansion at (tree_view m.1) l.unused ≡ Ok (tree_view made, c.in-Ok.rest) = subst (λ r. Gives (with_rest tree_view) TellsBroken r (expansion at (tree_view m.1) l.unused)) c.in-Ok.is c.expand_value.ensures in
+    let walk : expansion at (tree_view m.1) l.unused ≡ Ok (tree_view made, c.in-Ok.rest) =
+    subst (λ r. Gives (with_rest tree_view) TellsBroken r (expansion at (tree_view m.1) l.unused)) c.in-Ok.is
+    c.expand_value.ensures in
     ap (λ ys. after_members ys next) (ap tree_members c.in_ok-push-in-Ok.ensures.items ∙ members-more l.found.items (m.0, made))
     ∙ after_members-one (tree_members l.found.items) m.0.now (tree_view made) next
-    ∙ ap (after_members (tree_members l.found.items)) (sym (ap (λ ys. members_expansion at (tree_members ys) l.unused) here ∙ members_ok at m.0.now (tree_view m.1) (tree_members rest) l.unused (tree_view made) c.in-Ok.rest walk))
+    ∙ ap (after_members (tree_members l.found.items))
+    (sym (ap (λ ys. members_expansion at (tree_members ys) l.unused) here ∙
+    members_ok at m.0.now (tree_view m.1) (tree_members rest) l.unused (tree_view made) c.in-Ok.rest walk))
     ∙ l.invariant
 
 pub expand_value-expand_reference-requires : goal.expand_value-expand_reference-requires
 expand_value-expand_reference-requires t c =
     let top = members_depth (tree_members c.args.evaluators.now) in
     let ms = tree_members c.in-Object.members.items in
-    let deep : depth (tree_view c.args.value.now) ≡ suc (members_depth ms) = ap (λ x. depth (tree_view x)) c.in-Object.is ∙ ap depth (view-Object c.in-Object.members) in
+    let deep : depth (tree_view c.args.value.now) ≡ suc (members_depth ms) =
+    ap (λ x. depth (tree_view x)) c.in-Object.is ∙ ap depth (view-Object c.in-Object.members) in
     (falls_reference (c.args.more * suc top) (members_depth ms) (depth (tree_view c.args.value.now)) t (sym c.decreases) deep, c.requires)
 
 pub expand_value-returns-in-Some : goal.expand_value-returns-in-Some
 expand_value-returns-in-Some t c =
     let at = replacement (tree_members c.args.evaluators.now) c.args.more in
     let ms = tree_members c.in-Object.members.items in
-    let named : reference ms ≡ Some c.in-Some.name.now = ap (λ es. reference (tree_members es)) (sym c.deref.ensures.value) ∙ sym c.reference.ensures ∙ ap (option_map (λ s. s.now)) c.in-Some.is in
+    let named : reference ms ≡ Some c.in-Some.name.now =
+    ap (λ es. reference (tree_members es)) (sym c.deref.ensures.value) ∙ sym c.reference.ensures ∙
+    ap (option_map (λ s. s.now)) c.in-Some.is in
     let seen : tree_view c.args.value.now ≡ object ms = ap tree_view c.in-Object.is ∙ view-Object c.in-Object.members in
-    let same : expansion at (tree_view c.args.value.now) c.args.left ≡ at c.in-Some.name.now c.args.left = ap (λ d. expansion at d c.args.left) seen ∙ at_reference at ms c.in-Some.name.now c.args.left named in
+    let same : expansion at (tree_view c.args.value.now) c.args.left ≡ at c.in-Some.name.now c.args.left =
+    ap (λ d. expansion at d c.args.left) seen ∙ at_reference at ms c.in-Some.name.now c.args.left named in
     subst (λ w. Gives (with_rest tree_view) TellsBroken c.expand_reference.result w) (sym same) c.expand_reference.ensures
 
 pub expand_reference-expand_value-requires : goal.expand_reference-expand_value-requires
 expand_reference-expand_value-requires t c =
     let evaluators = tree_members c.args.evaluators.now in
     let e = tree_view c.in-Some.evaluator.now in
-    let found : get_member c.args.name.now evaluators ≡ Some e = sym c.member_in_order.ensures ∙ ap (option_map (λ x. tree_view x.now)) c.in-Some.is in
-    let first : 2 * (c.args.more * suc (members_depth evaluators)) + 1 ≡ t = c.requires.1.0 in
-    (falls_replaced c.args.more (c.args.more - 1) (members_depth evaluators) (depth e) t (omega arith) (sym first) (flat_get (suc (members_depth evaluators)) c.args.name.now (object evaluators) e (omega arith) found), c.requires.1.1)
+    let found : get_member c.args.name.now evaluators ≡ Some e = sym c.member_in_order.ensures ∙
+    ap (option_map (λ x. tree_view x.now)) c.in-Some.is in
+    let first : 2 * (c.args.more * suc (members_depth evaluators)) + 1 ≡ t = c.requires.1.0 in (
+      falls_replaced c.args.more (c.args.more - 1) (members_depth evaluators) (depth e) t (omega arith) (sym first)
+          (flat_get (suc (members_depth evaluators)) c.args.name.now (object evaluators) e (omega arith) found),
+      c.requires.1.1,
+    )
 
 pub expand_reference-returns-in-Some : goal.expand_reference-returns-in-Some
 expand_reference-returns-in-Some t c =
     let evaluators = tree_members c.args.evaluators.now in
-    let found : get_member c.args.name.now evaluators ≡ Some (tree_view c.in-Some.evaluator.now) = sym c.member_in_order.ensures ∙ ap (option_map (λ x. tree_view x.now)) c.in-Some.is in
-    subst (λ w. Gives (with_rest tree_view) TellsBroken c.expand_value.result w) (sym (at_name evaluators c.args.name.now c.args.more (c.args.more - 1) c.args.left _ found (omega arith))) c.expand_value.ensures
+    let found : get_member c.args.name.now evaluators ≡ Some (tree_view c.in-Some.evaluator.now) =
+    sym c.member_in_order.ensures ∙ ap (option_map (λ x. tree_view x.now)) c.in-Some.is in
+    subst (λ w. Gives (with_rest tree_view) TellsBroken c.expand_value.result w)
+    (sym (at_name evaluators c.args.name.now c.args.more (c.args.more - 1) c.args.left _ found (omega arith)))
+    c.expand_value.ensures
 
 pub expand_reference-returns-in_ok-from_str-in-None : goal.expand_reference-returns-in_ok-from_str-in-None
 expand_reference-returns-in_ok-from_str-in-None t c =
     let evaluators = tree_members c.args.evaluators.now in
-    let found : get_member c.args.name.now evaluators ≡ None = sym c.member_in_order.ensures ∙ ap (option_map (λ x. tree_view x.now)) c.in-None.is in
-    at_name evaluators c.args.name.now c.args.more (c.args.more - 1) c.args.left _ found (omega arith) ∙ ap (λ n. Err (unknown n)) (sym c.in_ok-from_str-in-None.ensures.ok)
+    let found : get_member c.args.name.now evaluators ≡ None = sym c.member_in_order.ensures ∙
+    ap (option_map (λ x. tree_view x.now)) c.in-None.is in
+    at_name evaluators c.args.name.now c.args.more (c.args.more - 1) c.args.left _ found (omega arith) ∙
+    ap (λ n. Err (unknown n)) (sym c.in_ok-from_str-in-None.ensures.ok)
 
 pub expand_value-returns-in-Ok : goal.expand_value-returns-in-Ok
 expand_value-returns-in-Ok t c =
     let at = replacement (tree_members c.args.evaluators.now) c.args.more in
     let ms = tree_members c.in-Object.members.items in
-    let plain : reference ms ≡ None = ap (λ es. reference (tree_members es)) (sym c.deref.ensures.value) ∙ sym c.reference.ensures ∙ ap (option_map (λ s. s.now)) c.in-None.is in
+    let plain : reference ms ≡ None = ap (λ es. reference (tree_members es)) (sym c.deref.ensures.value) ∙
+    sym c.reference.ensures ∙ ap (option_map (λ s. s.now)) c.in-None.is in
     let inner : members_expansion at ms (c.args.left - 1) ≡ Ok (tree_members c.in-Ok.found.items, c.in-Ok.rest) =
-    subst (λ r. Gives (with_rest (λ w. tree_members w.items)) TellsBroken r (members_expansion at ms (c.args.left - 1))) c.in-Ok.is c.expand_members.ensures in
-    ap (λ x. expansion at (tree_view x) c.args.left) c.in-Object.is ∙ ap (λ d. expansion at d c.args.left) (view-Object c.in-Object.members) ∙ at_object at ms c.args.left (c.args.left - 1) plain (omega arith)
+    subst (λ r. Gives (with_rest (λ w. tree_members w.items)) TellsBroken r
+    (members_expansion at ms (c.args.left - 1))) c.in-Ok.is c.expand_members.ensures in
+    ap (λ x. expansion at (tree_view x) c.args.left) c.in-Object.is ∙
+    ap (λ d. expansion at d c.args.left) (view-Object c.in-Object.members) ∙
+    at_object at ms c.args.left (c.args.left - 1) plain (omega arith)
     ∙ ap (λ w. onward w (λ es m. Ok (object es, m))) inner ∙ ap (λ d. Ok (d, c.in-Ok.rest)) (sym (view-Object c.in-Ok.found))
 
 pub expand_value-returns-in-Err : goal.expand_value-returns-in-Err
 expand_value-returns-in-Err t c =
     let at = replacement (tree_members c.args.evaluators.now) c.args.more in
     let ms = tree_members c.in-Object.members.items in
-    let plain : reference ms ≡ None = ap (λ es. reference (tree_members es)) (sym c.deref.ensures.value) ∙ sym c.reference.ensures ∙ ap (option_map (λ s. s.now)) c.in-None.is in
+    let plain : reference ms ≡ None = ap (λ es. reference (tree_members es)) (sym c.deref.ensures.value) ∙
+    sym c.reference.ensures ∙ ap (option_map (λ s. s.now)) c.in-None.is in
     let inner = members_expansion at ms (c.args.left - 1) in
-    gives_err {A = Vec Entry Global × ℕ} (with_rest (λ w. tree_members w.items)) (with_rest tree_view) c.in-Err.fault inner (expansion at (tree_view c.args.value.now) c.args.left)
+    gives_err {A = Vec Entry Global × ℕ} (with_rest (λ w. tree_members w.items)) (with_rest tree_view) c.in-Err.fault
+    inner (expansion at (tree_view c.args.value.now) c.args.left)
     (subst (λ r. Gives (with_rest (λ w. tree_members w.items)) TellsBroken r inner) c.in-Err.is c.expand_members.ensures)
-    (λ e h. ap (λ x. expansion at (tree_view x) c.args.left) c.in-Object.is ∙ ap (λ d. expansion at d c.args.left) (view-Object c.in-Object.members) ∙ at_object at ms c.args.left (c.args.left - 1) plain (omega arith) ∙ ap (λ w. onward w (λ es m. Ok (object es, m))) h)
+    (λ e h. ap (λ x. expansion at (tree_view x) c.args.left) c.in-Object.is ∙
+    ap (λ d. expansion at d c.args.left) (view-Object c.in-Object.members) ∙
+    at_object at ms c.args.left (c.args.left - 1) plain (omega arith) ∙
+    ap (λ w. onward w (λ es m. Ok (object es, m))) h)
 
 pub expand_value-returns-in-Ok-expand_items : goal.expand_value-returns-in-Ok-expand_items
 expand_value-returns-in-Ok-expand_items t c =
     let at = replacement (tree_members c.args.evaluators.now) c.args.more in
     let ds = tree_items c.in-Array.items.items in
     let inner : items_expansion at ds (c.args.left - 1) ≡ Ok (map tree_view c.in-Ok-expand_items.found.items, c.in-Ok-expand_items.rest) =
-    subst (λ r. Gives (with_rest (λ w. map tree_view w.items)) TellsBroken r (items_expansion at ds (c.args.left - 1))) c.in-Ok-expand_items.is c.expand_items.ensures in
-    ap (λ x. expansion at (tree_view x) c.args.left) c.in-Array.is ∙ ap (λ d. expansion at d c.args.left) (view-Array c.in-Array.items) ∙ at_array at ds c.args.left (c.args.left - 1) (omega arith)
-    ∙ ap (λ w. onward w (λ es m. Ok (array (items_of es), m))) inner ∙ ap (λ d. Ok (d, c.in-Ok-expand_items.rest)) (sym (view-Array c.in-Ok-expand_items.found))
+    subst (λ r. Gives (with_rest (λ w. map tree_view w.items)) TellsBroken r
+    (items_expansion at ds (c.args.left - 1))) c.in-Ok-expand_items.is c.expand_items.ensures in
+    ap (λ x. expansion at (tree_view x) c.args.left) c.in-Array.is ∙
+    ap (λ d. expansion at d c.args.left) (view-Array c.in-Array.items) ∙
+    at_array at ds c.args.left (c.args.left - 1) (omega arith)
+    ∙ ap (λ w. onward w (λ es m. Ok (array (items_of es), m))) inner ∙
+    ap (λ d. Ok (d, c.in-Ok-expand_items.rest)) (sym (view-Array c.in-Ok-expand_items.found))
 
 pub expand_value-returns-in-Err-expand_items : goal.expand_value-returns-in-Err-expand_items
 expand_value-returns-in-Err-expand_items t c =
     let at = replacement (tree_members c.args.evaluators.now) c.args.more in
     let ds = tree_items c.in-Array.items.items in
     let inner = items_expansion at ds (c.args.left - 1) in
-    gives_err {A = Vec Tree Global × ℕ} (with_rest (λ w. map tree_view w.items)) (with_rest tree_view) c.in-Err-expand_items.fault inner (expansion at (tree_view c.args.value.now) c.args.left)
+    gives_err {A = Vec Tree Global × ℕ} (with_rest (λ w. map tree_view w.items)) (with_rest tree_view)
+    c.in-Err-expand_items.fault inner (expansion at (tree_view c.args.value.now) c.args.left)
     (subst (λ r. Gives (with_rest (λ w. map tree_view w.items)) TellsBroken r inner) c.in-Err-expand_items.is c.expand_items.ensures)
-    (λ e h. ap (λ x. expansion at (tree_view x) c.args.left) c.in-Array.is ∙ ap (λ d. expansion at d c.args.left) (view-Array c.in-Array.items) ∙ at_array at ds c.args.left (c.args.left - 1) (omega arith) ∙ ap (λ w. onward w (λ es m. Ok (array (items_of es), m))) h)
+    (λ e h. ap (λ x. expansion at (tree_view x) c.args.left) c.in-Array.is ∙
+    ap (λ d. expansion at d c.args.left) (view-Array c.in-Array.items) ∙
+    at_array at ds c.args.left (c.args.left - 1) (omega arith) ∙
+    ap (λ w. onward w (λ es m. Ok (array (items_of es), m))) h)
 
 pub expand_value-returns-then-left-eq0 : goal.expand_value-returns-then-left-eq0
 expand_value-returns-then-left-eq0 t c =
     let at = replacement (tree_members c.args.evaluators.now) c.args.more in
     let ms = tree_members c.in-Object.members.items in
-    let plain : reference ms ≡ None = ap (λ es. reference (tree_members es)) (sym c.deref.ensures.value) ∙ sym c.reference.ensures ∙ ap (option_map (λ s. s.now)) c.in-None.is in
-    ap (λ x. expansion at (tree_view x) c.args.left) c.in-Object.is ∙ ap (λ d. expansion at d c.args.left) (view-Object c.in-Object.members) ∙ at_full at ms c.args.left plain c.if-left-eq0.true
+    let plain : reference ms ≡ None = ap (λ es. reference (tree_members es)) (sym c.deref.ensures.value) ∙
+    sym c.reference.ensures ∙ ap (option_map (λ s. s.now)) c.in-None.is in
+    ap (λ x. expansion at (tree_view x) c.args.left) c.in-Object.is ∙
+    ap (λ d. expansion at d c.args.left) (view-Object c.in-Object.members) ∙
+    at_full at ms c.args.left plain c.if-left-eq0.true
 
 pub expand_members-returns : goal.expand_members-returns
 expand_members-returns t c =

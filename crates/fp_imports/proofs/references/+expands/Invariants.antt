@@ -13,18 +13,25 @@ abbrev pub decreases-expand_reference : goal.decreases-expand_reference
 decreases-expand_reference l = 2 * (l.more * suc (members_depth (tree_members l.evaluators.now))) + 1
 
 abbrev pub decreases-expand_items : goal.decreases-expand_items
-decreases-expand_items l = 2 * (l.more * suc (members_depth (tree_members l.evaluators.now)) + items_depth (tree_items l.items.now.items)) + 1
+decreases-expand_items l = 2 *
+    (l.more * suc (members_depth (tree_members l.evaluators.now)) + items_depth (tree_items l.items.now.items)) + 1
 
 abbrev pub decreases-expand_members : goal.decreases-expand_members
-decreases-expand_members l = 2 * (l.more * suc (members_depth (tree_members l.evaluators.now)) + members_depth (tree_members l.members.now.items)) + 1
+decreases-expand_members l = 2 *
+    (l.more * suc (members_depth (tree_members l.evaluators.now)) + members_depth (tree_members l.members.now.items))
+    + 1
 
 -- what is found, before the walk of what is left, is the walk of all
 abbrev pub invariant-expand_items-loop-item : goal.invariant-expand_items-loop-item
 invariant-expand_items-loop-item l =
-    after_items (map tree_view l.found.items) (items_expansion (replacement (tree_members l.evaluators) l.more) (tree_items (drop l.item-index l.item-items)) l.unused)
+    after_items (map tree_view l.found.items)
+    (items_expansion (replacement (tree_members l.evaluators) l.more)
+    (tree_items (drop l.item-index l.item-items)) l.unused)
     ≡ items_expansion (replacement (tree_members l.evaluators) l.more) (tree_items l.item-items) l.left
 
 abbrev pub invariant-expand_members-loop-member : goal.invariant-expand_members-loop-member
 invariant-expand_members-loop-member l =
-    after_members (tree_members l.found.items) (members_expansion (replacement (tree_members l.evaluators) l.more) (tree_members (drop l.member-index l.member-items)) l.unused)
+    after_members (tree_members l.found.items)
+    (members_expansion (replacement (tree_members l.evaluators) l.more)
+    (tree_members (drop l.member-index l.member-items)) l.unused)
     ≡ members_expansion (replacement (tree_members l.evaluators) l.more) (tree_members l.member-items) l.left

@@ -11,8 +11,11 @@ loop-alloc-preserved g c =
       within = omega (arith, within, long, count, less);
       kept = only_then D c.args.disk.now c.loop-alloc.disk c.put_piece.new.disk i.kept e.kept;
       faults = e.no_failure ∙ i.faults;
-      stands = λ h. let back : Holds (D.bytes c.loop-alloc.disk) c.args.first c.put_piece.new.bytes.items = e.stands (i.kept.word.honest.0 h) in rw (← (i.kept.same h).0) back;
+      stands = λ h. let back : Holds (D.bytes c.loop-alloc.disk) c.args.first c.put_piece.new.bytes.items =
+          e.stands (i.kept.word.honest.0 h) in rw (← (i.kept.same h).0) back;
     }
 
 pub returns-in_err-put_piece-clause-kept : goal.returns-in_err-put_piece-clause-kept
-returns-in_err-put_piece-clause-kept g c = only_then g.D.Disk c.args.disk.now c.loop-alloc.disk c.put_piece.new.disk c.loop-alloc.invariant.kept c.put_piece.ensures.kept
+returns-in_err-put_piece-clause-kept g c =
+    only_then g.D.Disk c.args.disk.now c.loop-alloc.disk c.put_piece.new.disk c.loop-alloc.invariant.kept
+    c.put_piece.ensures.kept

@@ -11,10 +11,13 @@ use Rattle.fp_layout.proofs.opening.read_image.Goals as goal
 pub returns-in-Ok-clause-found : goal.returns-in-Ok-clause-found
 returns-in-Ok-clause-found g c = λ h.
     let D = g.D.Disk in let b = D.bytes c.args.disk.now in let r = c.args.ruling in let read = c.requires.read in let size = c.args.size in
-    let image = c.in_ok-image.image.items in let long = c.in_ok-image.ensures.long in let stands = c.requires.stands h in let behind = c.in_ok-image.ensures.stands h in
-    let active : IsActive b size r.slot r.other = record { side = read.side; slot_is = read.slot_is; other_is = read.other_is; rules = stands.ruling.rules } in
+    let image = c.in_ok-image.image.items in let long = c.in_ok-image.ensures.long in
+    let stands = c.requires.stands h in let behind = c.in_ok-image.ensures.stands h in
+    let active : IsActive b size r.slot r.other =
+    record { side = read.side; slot_is = read.slot_is; other_is = read.other_is; rules = stands.ruling.rules } in
     let head : IsHead b r.slot.start size r.head.version r.head.generation r.head.base image =
-    head_found r.head.version r.head.generation r.head.base r.head.len r.text image read.text_is long b r.slot.start size read.known read.numbered read.low read.small stands.text behind in
+    head_found r.head.version r.head.generation r.head.base r.head.len r.text image read.text_is long b r.slot.start
+    size read.known read.numbered read.low read.small stands.text behind in
     let text : c.push.new.self ≡ r.text ++ image = search rules in let len : c.len.result ≡ length image = search rules in
     record {
       front = record {
@@ -30,9 +33,18 @@ returns-in-Ok-clause-found g c = λ h.
         begun = search rules;
         place = ap (λ (n : ℕ). r.slot.start + 22 + n) len;
       };
-      slots = record { size = size; header = c.requires.header h; active = active; version_is = head.version_is; generation_is = head.generation_is };
+      slots = record {
+        size = size;
+        header = c.requires.header h;
+        active = active;
+        version_is =
+            head.version_is;
+        generation_is = head.generation_is;
+      };
       gate = stands.ruling.gate;
-      text = subst (λ (t : List ℕ). Holds b r.slot.start t) (sym text) (head_there r.head.version r.head.generation r.head.base r.head.len r.text image read.text_is long b r.slot.start stands.text behind);
+      text = subst (λ (t : List ℕ). Holds b r.slot.start t) (sym text)
+          (head_there r.head.version r.head.generation r.head.base r.head.len r.text image read.text_is long b
+          r.slot.start stands.text behind);
       long = c.requires.long h;
     }
 
@@ -40,11 +52,16 @@ pub returns-in-Err-BadBody-clause-fault : goal.returns-in-Err-BadBody-clause-fau
 returns-in-Err-BadBody-clause-fault g c = λ h.
     let D = g.D.Disk in let b = D.bytes c.args.disk.now in let r = c.args.ruling in let read = c.requires.read in let size = c.args.size in
     let image = c.in_ok-image.image.items in let stands = c.requires.stands h in
-    let active : IsActive b size r.slot r.other = record { side = read.side; slot_is = read.slot_is; other_is = read.other_is; rules = stands.ruling.rules } in
+    let active : IsActive b size r.slot r.other =
+    record { side = read.side; slot_is = read.slot_is; other_is = read.other_is; rules = stands.ruling.rules } in
     let head : IsHead b r.slot.start size r.head.version r.head.generation r.head.base image =
-    head_found r.head.version r.head.generation r.head.base r.head.len r.text image read.text_is c.in_ok-image.ensures.long b r.slot.start size read.known read.numbered read.low read.small stands.text (c.in_ok-image.ensures.stands h) in
-    let rejected : g.R.SlotReader.rejects c.args.reader.now r.head.version r.head.base (size / 2) image c.in-Err-BadBody.at = search rules in
-    in_image size r.head.version r.head.generation r.head.base r.slot r.other image c.in-Err-BadBody.at (c.requires.header h) active head rejected (ap (λ (n : ℕ). r.slot.start + 22 + n) c.in-Err-BadBody.at-is)
+    head_found r.head.version r.head.generation r.head.base r.head.len r.text image read.text_is
+    c.in_ok-image.ensures.long b r.slot.start size read.known read.numbered read.low read.small stands.text
+    (c.in_ok-image.ensures.stands h) in
+    let rejected : g.R.SlotReader.rejects c.args.reader.now r.head.version r.head.base (size / 2) image
+    c.in-Err-BadBody.at = search rules in
+    in_image size r.head.version r.head.generation r.head.base r.slot r.other image c.in-Err-BadBody.at
+    (c.requires.header h) active head rejected (ap (λ (n : ℕ). r.slot.start + 22 + n) c.in-Err-BadBody.at-is)
 
 pub returns-clause-kept : goal.returns-clause-kept
 returns-clause-kept g c = c.read_bytes.ensures.kept
@@ -85,7 +102,8 @@ pub returns-in-Ok-clause-read : goal.returns-in-Ok-clause-read
 returns-in-Ok-clause-read g c =
     let r = c.args.ruling in let read = c.requires.read in let image = c.in_ok-image.image.items in let long = c.in_ok-image.ensures.long in
     let text : c.push.new.self ≡ r.text ++ image = search rules in let len : c.len.result ≡ length image = search rules in
-    let small = read.small in let within = read.within in let joined = length-append r.text image in let front = ap length read.text_is in let all = ap length text in
+    let small = read.small in let within = read.within in let joined = length-append r.text image in
+    let front = ap length read.text_is in let all = ap length text in
     record {
       read = record {
         size = c.args.size;

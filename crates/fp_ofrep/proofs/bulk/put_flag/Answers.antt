@@ -17,10 +17,12 @@ returns-in_ok-put_success-in-Ok-clause-text c = λ context now rest of_context.
 pub returns-in-Err-Disabled-clause-text : goal.returns-in-Err-Disabled-clause-text
 returns-in-Err-Disabled-clause-text c = λ context now rest of_context.
     let key = key_bytes c.args.key.now in let d = data_of c.args.definition.now in let o = outcome_of d key context now in
-    listed_not c.args.out.now.items c.args.later key d o rest (disabled o _ c.in-Err-Disabled.field-0-is (c.in-Err-Disabled.ensures.computed context now of_context))
+    listed_not c.args.out.now.items c.args.later key d o rest
+    (disabled o _ c.in-Err-Disabled.field-0-is (c.in-Err-Disabled.ensures.computed context now of_context))
 
 pub returns-in_ok-put_failure-in-Err-NoVariant-clause-text : goal.returns-in_ok-put_failure-in-Err-NoVariant-clause-text
 returns-in_ok-put_failure-in-Err-NoVariant-clause-text c = λ context now rest of_context.
     let key = key_bytes c.args.key.now in let d = data_of c.args.definition.now in let o = outcome_of d key context now in
     listed_failure c.args.out.now.items c.args.later key d o rest _ _ _ c.in_ok-put_comma-in-Err-NoVariant.ensures
-    c.in_ok-put_failure-in-Err-NoVariant.ensures c.as_str-in-Err-NoVariant.ensures (no_variant o _ c.in-Err-NoVariant.field-0-is (c.in-Err-NoVariant.ensures.computed context now of_context))
+    c.in_ok-put_failure-in-Err-NoVariant.ensures c.as_str-in-Err-NoVariant.ensures
+    (no_variant o _ c.in-Err-NoVariant.field-0-is (c.in-Err-NoVariant.ensures.computed context now of_context))

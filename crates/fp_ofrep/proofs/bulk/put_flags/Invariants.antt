@@ -12,4 +12,5 @@ abbrev pub invariant-loop-key : goal.invariant-loop-key
 invariant-loop-key l =
     ((context : Data) (now : ℕ) → IsOfContext context now l.initial.«data» → IsOfContext context now l.«data»)
     × ((context : Data) (now : ℕ) → IsOfContext context now l.initial.«data»
-    → l.out.items ++ items_text l.later (flag_items (entries_of l.key-iterator) context now) ≡ l.initial.out.items ++ items_text false (flag_items (map.entries l.set.flags) context now))
+    → l.out.items ++ items_text l.later (flag_items (entries_of l.key-iterator) context now) ≡ l.initial.out.items ++
+    items_text false (flag_items (map.entries l.set.flags) context now))

@@ -12,6 +12,8 @@ note-requires-clause-tag c =
     let set = front_set c.args.view.now in let tags = option_copied c.args.if_none_match in let body = c.in-Some.asked.now in (
       c.args.now,
       tag_told set tags body c.deref.result.now c.args.now
-          (ap (λ (r : Response). r.etag) (sym (c.in_ok-reply.ensures ∙ asked_for_all c.args.method.now c.args.target.now (body_seen c.args.body) body c.in-Some.ensures set tags c.args.now))
+          (ap (λ (r : Response). r.etag)
+          (sym (c.in_ok-reply.ensures ∙ asked_for_all c.args.method.now c.args.target.now (body_seen c.args.body)
+          body c.in-Some.ensures set tags c.args.now))
           ∙ ap (option_map (λ v. v.items)) c.in-Some-etag.is ∙ ap Some (sym c.deref.ensures.value)),
     )

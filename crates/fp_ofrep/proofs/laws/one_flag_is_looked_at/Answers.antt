@@ -9,7 +9,8 @@ use Rattle.fp_ofrep.proofs.laws.one_flag_is_looked_at.Goals as goal
 pub returns-clause-others : goal.returns-clause-others
 returns-clause-others c = λ a b method target segment if_none_match body now is revision flag.
     ap (λ (r : Option Route). reply_to_route a r method if_none_match body now) is
-    ∙ ap (λ (r : Response). if bytes_eq method (codes "POST") then r else not_allowed) (posted-same a b segment if_none_match body now revision flag)
+    ∙ ap (λ (r : Response). if bytes_eq method (codes "POST") then r else not_allowed)
+    (posted-same a b segment if_none_match body now revision flag)
     ∙ sym (ap (λ (r : Option Route). reply_to_route b r method if_none_match body now) is)
 
 pub returns-clause-key : goal.returns-clause-key

@@ -16,7 +16,8 @@ pub returns-in-Ok : goal.returns-in-Ok
 returns-in-Ok c =
     let key = key_bytes c.args.key.now in let d = data_of c.args.definition.now in
     let o = outcome_of d key (tree_view c.args.context.now) c.args.now in
-    let is = said o (spelled_by c.in-Ok.said) (subst (λ r. Gives spelled_by Tells r (outcome_spelled o)) c.in-Ok.is c.in_ok-said.ensures.computed) in
+    let is = said o (spelled_by c.in-Ok.said)
+    (subst (λ r. Gives spelled_by Tells r (outcome_spelled o)) c.in-Ok.is c.in_ok-said.ensures.computed) in
     subst (λ x. IfOk c.said_reply.result (λ r. response_seen r ≡ response_of c.args.revision key (value_or_failure key d x))) (sym is.1)
     (IfOk-weaker c.said_reply.result _ _ (λ r h. h is.0 is.2) c.said_reply.ensures)
 
@@ -25,7 +26,9 @@ returns-in-Err-Disabled c =
     let key = key_bytes c.args.key.now in let d = data_of c.args.definition.now in
     let o = outcome_of d key (tree_view c.args.context.now) c.args.now in
     subst (λ x. IfOk c.failed.result (λ r. response_seen r ≡ response_of c.args.revision key (value_or_failure key d x)))
-    (sym (disabled o _ c.in-Err-Disabled.field-0-is (subst (λ r. Gives spelled_by Tells r (outcome_spelled o)) c.in-Err-Disabled.is c.in_ok-said.ensures.computed)))
+    (sym (disabled o _ c.in-Err-Disabled.field-0-is
+    (subst (λ r. Gives spelled_by Tells r (outcome_spelled o)) c.in-Err-Disabled.is
+    c.in_ok-said.ensures.computed)))
     (subst (λ k. IfOk c.failed.result (λ r. response_seen r ≡ failure_response FlagDisabled (Some k))) c.as_str.ensures c.failed.ensures)
 
 pub returns-in-Err-NoVariant : goal.returns-in-Err-NoVariant
@@ -35,4 +38,6 @@ returns-in-Err-NoVariant c =
     subst (λ x. IfOk c.failed-in-Err-NoVariant.result (λ r. response_seen r ≡ response_of c.args.revision key (value_or_failure key d x)))
     (sym (no_variant o _ c.in-Err-NoVariant.field-0-is
     (subst (λ r. Gives spelled_by Tells r (outcome_spelled o)) c.in-Err-NoVariant.is c.in_ok-said.ensures.computed)))
-    (subst (λ k. IfOk c.failed-in-Err-NoVariant.result (λ r. response_seen r ≡ failure_response NamesNoVariant (Some k))) c.as_str-in-Err-NoVariant.ensures c.failed-in-Err-NoVariant.ensures)
+    (subst (λ k. IfOk c.failed-in-Err-NoVariant.result
+    (λ r. response_seen r ≡ failure_response NamesNoVariant (Some k))) c.as_str-in-Err-NoVariant.ensures
+    c.failed-in-Err-NoVariant.ensures)

@@ -17,5 +17,7 @@ copy_members-loop-key-preserved t c =
     let named : string_bytes c.in_ok-name.name ≡ string_bytes e.0 = c.in_ok-name.ensures.cases in (
       done ++ e ∷ [],
       all ∙ sym (append_assoc done (e ∷ []) left),
-      ap members_view c.in_ok-insert.ensures.entries ∙ members_view-insert_entry l.copies.entries c.in_ok-name.name c.in_ok-try_copy.field-0 ∙ rw (named, c.in_ok-try_copy.ensures.copy, l.invariant.2) last,
+      ap members_view c.in_ok-insert.ensures.entries ∙
+          members_view-insert_entry l.copies.entries c.in_ok-name.name c.in_ok-try_copy.field-0 ∙
+          rw (named, c.in_ok-try_copy.ensures.copy, l.invariant.2) last,
     )

@@ -9,7 +9,8 @@ use Rattle.fp_base.proofs.Turns.{drop-here, take-here}
 use Rattle.fp_operators.specs.Data.{put}
 use Rattle.fp_operators.specs.View.{view, items_of, members_view}
 use Rattle.fp_operators.specs.FromJson.{data_of, members_from}
-use Rattle.fp_operators.proofs.Views.{Entry, IsFilledTo, seen_entry, read_entry, collected, filled-none, filled-more, filled-whole, members_view-insert_entry, items_from-tree_items}
+use Rattle.fp_operators.proofs.Views.{Entry, IsFilledTo, seen_entry, read_entry, collected, filled-none, filled-more}
+use Rattle.fp_operators.proofs.Views.{filled-whole, members_view-insert_entry, items_from-tree_items}
 use Rattle.fp_operators.proofs.datum.+from_tree.Goals as goal
 
 pub from_items-returns : goal.from_items-returns
@@ -31,7 +32,9 @@ from_few-loop-member-preserved t c =
     let left = tree_members (drop (i + 1) xs) in
     let found = c.loop-member.found.entries in
     let put_in : members_view c.insert.new.self.entries ≡ put m.0.now (data_of (tree_view m.1)) (members_view found) =
-    ap members_view c.in_ok-insert.ensures.entries ∙ members_view-insert_entry found c.in_ok-name.name c.in_ok-from_tree.field-0 ∙ rw (c.in_ok-name.ensures.ok, c.in_ok-from_tree.ensures) refl in (
+    ap members_view c.in_ok-insert.ensures.entries ∙
+    members_view-insert_entry found c.in_ok-name.name c.in_ok-from_tree.field-0 ∙
+    rw (c.in_ok-name.ensures.ok, c.in_ok-from_tree.ensures) refl in (
       subst (λ ms. IsFilledTo ms left (tree_members xs)) (sym put_in)
           (filled-more (members_view found) m.0.now (tree_view m.1) left (tree_members xs)
           (subst (λ ys. IsFilledTo (members_view found) (tree_members ys) (tree_members xs)) here c.loop-member.invariant.0)),

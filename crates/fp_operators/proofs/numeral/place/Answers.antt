@@ -6,8 +6,10 @@ use Rattle.fp_operators.proofs.numeral.place.Goals as goal
 pub returns : goal.returns
 returns c =
     c.ok.ensures.value ∙ reads_place c.args.text.now c.parse.result c.parse.ensures.value.0
-    (sym (ap (λ bs. begins_with_plus bs || leads_with_zero bs) c.as_bytes.ensures.value) ∙ sym c.has_plus_or_zero.ensures ∙ c.if-has_plus_or_zero.false)
+    (sym (ap (λ bs. begins_with_plus bs || leads_with_zero bs) c.as_bytes.ensures.value) ∙
+    sym c.has_plus_or_zero.ensures ∙ c.if-has_plus_or_zero.false)
 
 pub returns-then-has_plus_or_zero : goal.returns-then-has_plus_or_zero
 returns-then-has_plus_or_zero c =
-    no_place c.args.text.now (sym (ap (λ bs. begins_with_plus bs || leads_with_zero bs) c.as_bytes.ensures.value) ∙ sym c.has_plus_or_zero.ensures ∙ c.if-has_plus_or_zero.true)
+    no_place c.args.text.now (sym (ap (λ bs. begins_with_plus bs || leads_with_zero bs) c.as_bytes.ensures.value) ∙
+    sym c.has_plus_or_zero.ensures ∙ c.if-has_plus_or_zero.true)

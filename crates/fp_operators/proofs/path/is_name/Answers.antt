@@ -7,4 +7,5 @@ pub returns-in-Equal : goal.returns-in-Equal
 returns-in-Equal c = sym (ap is_eq c.in-Equal.is) ∙ ap is_eq c.cmp.ensures ∙ is_eq-slice_cmp c.args.name.now c.args.key.now
 
 pub returns-in_default : goal.returns-in_default
-returns-in_default c = sym (is_eq-not c.cmp.result c.in_default.not-Equal) ∙ ap is_eq c.cmp.ensures ∙ is_eq-slice_cmp c.args.name.now c.args.key.now
+returns-in_default c = sym (is_eq-not c.cmp.result c.in_default.not-Equal) ∙ ap is_eq c.cmp.ensures ∙
+    is_eq-slice_cmp c.args.name.now c.args.key.now

@@ -16,4 +16,5 @@ pub returns-in-List : goal.returns-in-List
 returns-in-List c =
     let seen : view (DList c.in-List.items) ≡ list (items_view c.in-List.items.items) = search (rules, the_lemmas) in
     let long : vec_len c.in-List.items ≡ length c.in-List.items.items = omega (arith, c.in-List.items.ok.0) in
-    ap not c.is_empty-in-List.ensures ∙ ap (λ n. not (n == 0)) long ∙ some_items c.in-List.items.items ∙ ap truth (sym seen) ∙ ap (λ d. truth (view d)) (sym c.in-List.is)
+    ap not c.is_empty-in-List.ensures ∙ ap (λ n. not (n == 0)) long ∙ some_items c.in-List.items.items ∙
+    ap truth (sym seen) ∙ ap (λ d. truth (view d)) (sym c.in-List.is)

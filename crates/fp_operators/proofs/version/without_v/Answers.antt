@@ -8,4 +8,6 @@ no_v [] h = refl
 no_v (b ∷ bs) h = rw (ne_eqb b 118 (λ e. h bs (ap (λ y. y ∷ bs) e))) refl
 
 pub returns-in-None : goal.returns-in-None
-returns-in-None c = no_v c.args.text.now (rw c.in-None.is at (strip_prefix_char 118 c.args.text.now c.strip_prefix.result c.strip_prefix.ensures.cases (omega arith)))
+returns-in-None c = no_v c.args.text.now
+    (rw c.in-None.is at (strip_prefix_char 118 c.args.text.now c.strip_prefix.result c.strip_prefix.ensures.cases
+    (omega arith)))

@@ -19,5 +19,7 @@ loop-edit-preserved c = record {
       c.in_ok-put.ensures.appended p
       ∙ ap (λ (x : Page). page_after x (step.Change c.in_ok-try_copy.field-0)) (c.loop-edit.invariant.appended p)
       ∙ ap (λ (x : Proposal). record { set = next so_far (change_in x); front = old.front }) c.in_ok-try_copy.ensures
-      ∙ ap (λ (t : State). record { set = t; front = old.front }) (sym (one_after old.set c.args.edits.now c.loop-edit.edit-index c.edit-item.result c.loop-edit-test.true c.edit-item.is));
+      ∙ ap (λ (t : State). record { set = t; front = old.front })
+      (sym (one_after old.set c.args.edits.now c.loop-edit.edit-index c.edit-item.result c.loop-edit-test.true
+      c.edit-item.is));
 }

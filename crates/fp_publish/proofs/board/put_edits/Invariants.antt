@@ -7,5 +7,7 @@ use Rattle.fp_publish.proofs.board.put_edits.Given as goal
 abbrev pub invariant-loop-edit : goal.invariant-loop-edit
 invariant-loop-edit l = record {
   desk : l.writer.desk ≡ l.initial.writer.desk;
-  appended : (p : Page) → fold page_after p (drop l.writer.behind l.writer.log.items) ≡ with_changes (fold page_after p (drop l.initial.writer.behind l.initial.writer.log.items)) (changes_of (take l.edit-index l.edits));
+  appended : (p : Page) → fold page_after p (drop l.writer.behind l.writer.log.items) ≡ with_changes
+      (fold page_after p (drop l.initial.writer.behind l.initial.writer.log.items))
+      (changes_of (take l.edit-index l.edits));
 }

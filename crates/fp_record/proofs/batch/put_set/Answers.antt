@@ -18,7 +18,8 @@ returns-clause-written c =
     let spelled = flat_map encoding_of_part (parts_of proposed) in
     let count : length changes ≡ length (parts_of proposed) = sym (length-map proposed _ ∙ length-map changes proposed_of) in
     c.loop-change.invariant.0
-    ∙ ap (λ (done : List Change). ((front ++ SET_KIND ∷ []) ++ to_be_bytes w16 (length changes)) ++ flat_map encoding_of_part (parts_of (map proposed_of done))) all
+    ∙ ap (λ (done : List Change). ((front ++ SET_KIND ∷ []) ++ to_be_bytes w16 (length changes)) ++ flat_map
+    encoding_of_part (parts_of (map proposed_of done))) all
     ∙ append_assoc (front ++ SET_KIND ∷ []) (to_be_bytes w16 (length changes)) spelled
     ∙ append_assoc front (SET_KIND ∷ []) (to_be_bytes w16 (length changes) ++ spelled)
     ∙ ap (λ (n : ℕ). front ++ SET_KIND ∷ (to_be_bytes w16 n ++ spelled)) count

@@ -9,5 +9,7 @@ use Rattle.fp_record.proofs.batch.put_set.Given as goal
 
 abbrev pub invariant-loop-change : goal.invariant-loop-change
 invariant-loop-change l =
-    (l.out.items ≡ ((l.fn.out.items ++ SET_KIND ∷ []) ++ to_be_bytes w16 (length l.changes)) ++ flat_map encoding_of_part (parts_of (map proposed_of (take l.change-index l.changes))))
-    × (AllByRecursion IsPart (parts_of (map proposed_of (drop l.change-index l.changes))) → AllByRecursion IsPart (parts_of (map proposed_of l.changes)))
+    (l.out.items ≡ ((l.fn.out.items ++ SET_KIND ∷ []) ++ to_be_bytes w16 (length l.changes)) ++ flat_map
+    encoding_of_part (parts_of (map proposed_of (take l.change-index l.changes))))
+    × (AllByRecursion IsPart (parts_of (map proposed_of (drop l.change-index l.changes))) →
+    AllByRecursion IsPart (parts_of (map proposed_of l.changes)))

@@ -8,5 +8,6 @@ use Rattle.fp_record.proofs.batch.spelled.Given as goal
 
 abbrev pub invariant-loop-edit : goal.invariant-loop-edit
 invariant-loop-edit l =
-    (l.out.items ≡ (to_be_bytes w64 l.first ++ to_be_bytes w16 (length l.edits)) ++ flat_map encoding_of_change (changes_of (take l.edit-index l.edits)))
+    (l.out.items ≡ (to_be_bytes w64 l.first ++ to_be_bytes w16 (length l.edits)) ++ flat_map encoding_of_change
+    (changes_of (take l.edit-index l.edits)))
     × (AllByRecursion IsChange (changes_of (drop l.edit-index l.edits)) → AllByRecursion IsChange (changes_of l.edits))

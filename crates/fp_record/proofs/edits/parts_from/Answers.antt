@@ -43,8 +43,11 @@ returns-in_err-part-clause-value c =
     let bytes = c.args.bytes.now in
     let parts = c.loop.parts.items in
     let e = c.in_err-part.field-0.0 in
-    let fails : Fails e (part_at (keys_of parts) bytes c.loop.place) = rw (← part_same c.loop.met (keys_of parts) c.loop.invariant.met bytes c.loop.place) c.in_err-part.ensures.value in
-    rw (p.1, p.2) (ends (next_part bytes) e c.loop.counter c.args.count ([], c.args.at) (parts_of (map proposed_of parts), (keys_of parts, c.loop.place)) c.loop-test.true c.loop.invariant.read
+    let fails : Fails e (part_at (keys_of parts) bytes c.loop.place) =
+    rw (← part_same c.loop.met (keys_of parts) c.loop.invariant.met bytes c.loop.place)
+    c.in_err-part.ensures.value in
+    rw (p.1, p.2) (ends (next_part bytes) e c.loop.counter c.args.count ([], c.args.at)
+    (parts_of (map proposed_of parts), (keys_of parts, c.loop.place)) c.loop-test.true c.loop.invariant.read
     (next_fails bytes (keys_of parts) c.loop.place e fails))
 
 pub loop-preserved : goal.loop-preserved
@@ -53,13 +56,20 @@ loop-preserved c =
     let parts = c.loop.parts.items in
     let part = c.in_ok-part.part in
     let key = part_key (proposed_of part).part in
-    let found : part_at (keys_of parts) bytes c.loop.place ≡ Ok ((proposed_of part).part, c.in_ok-part.next) = sym (part_same c.loop.met (keys_of parts) c.loop.invariant.met bytes c.loop.place) ∙ c.in_ok-part.ensures.value in
-    let keys_more : keys_of (parts ++ part ∷ []) ≡ keys_of parts ++ key ∷ [] = ap (map part_key) (parts_more parts part) ∙ map_push part_key (parts_of (map proposed_of parts)) (proposed_of part).part in
+    let found : part_at (keys_of parts) bytes c.loop.place ≡ Ok ((proposed_of part).part, c.in_ok-part.next) =
+    sym (part_same c.loop.met (keys_of parts) c.loop.invariant.met bytes c.loop.place) ∙
+    c.in_ok-part.ensures.value in
+    let keys_more : keys_of (parts ++ part ∷ []) ≡ keys_of parts ++ key ∷ [] =
+    ap (map part_key) (parts_more parts part) ∙
+    map_push part_key (parts_of (map proposed_of parts)) (proposed_of part).part in
     let met = c.part_from.new.met in
     let x : List Part × (List (List ℕ) × ℕ) = (parts_of (map proposed_of parts), (keys_of parts, c.loop.place)) in
-    let y : Part × (List (List ℕ) × ℕ) = ((proposed_of part).part, (keys_of parts ++ part_key (proposed_of part).part ∷ [], c.in_ok-part.next)) in
+    let y : Part × (List (List ℕ) × ℕ) =
+    ((proposed_of part).part, (keys_of parts ++ part_key (proposed_of part).part ∷ [], c.in_ok-part.next)) in
     rw c.in_ok-push.ensures.items (record {
-      read = rw (parts_more parts part, map_push part_key (parts_of (map proposed_of parts)) (proposed_of part).part) (one_more (next_part bytes) c.loop.counter ([], c.args.at) x y c.loop.invariant.read (next_is bytes (keys_of parts) c.loop.place ((proposed_of part).part, c.in_ok-part.next) found));
+      read = rw (parts_more parts part, map_push part_key (parts_of (map proposed_of parts)) (proposed_of part).part)
+          (one_more (next_part bytes) c.loop.counter ([], c.args.at) x y c.loop.invariant.read
+          (next_is bytes (keys_of parts) c.loop.place ((proposed_of part).part, c.in_ok-part.next) found));
       free = free_more parts part c.loop.invariant.free c.in_ok-part.ensures.free;
       met = subst (AreMet met) (sym keys_more) (met_more met c.loop.met (keys_of parts) key c.in_ok-part.ensures.met c.loop.invariant.met);
       within = c.in_ok-part.ensures.within;

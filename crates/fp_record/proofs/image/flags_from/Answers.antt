@@ -15,15 +15,24 @@ returns-in_err-found-clause-value c =
     let step = flag_at c.args.newest c.args.bytes.now in
     let e = c.in_err-found.field-0.0 in
     rw (p.1, p.2) (fails_on e (many_from step c.args.count ([], c.args.at)) (λ flags. Ok (flags.0, flags.1.1))
-    (ends step e c.loop.counter c.args.count ([], c.args.at) (entries_of c.loop.flags.items, (c.loop.before.now, c.loop.place)) c.loop-test.true c.loop.invariant.0 c.in_err-found.ensures.value))
+    (ends step e c.loop.counter c.args.count ([], c.args.at)
+    (entries_of c.loop.flags.items, (c.loop.before.now, c.loop.place)) c.loop-test.true c.loop.invariant.0
+    c.in_err-found.ensures.value))
 
 pub loop-preserved : goal.loop-preserved
 loop-preserved c =
     let found = c.in_ok-found.found in
     let added = c.in_ok-push.ensures.items in
-    let e : entries_of c.push.new.self.items ≡ entries_of c.loop.flags.items ++ entry_of found.flag ∷ [] = rw added (map_push _ c.loop.flags.items found.flag) in
-    let count : length c.push.new.self.items ≡ c.loop.counter + 1 = rw added (omega (arith, length-append c.loop.flags.items (found.flag ∷ []), c.loop.invariant.1)) in
+    let e : entries_of c.push.new.self.items ≡ entries_of c.loop.flags.items ++ entry_of found.flag ∷ [] =
+    rw added (map_push _ c.loop.flags.items found.flag) in
+    let count : length c.push.new.self.items ≡ c.loop.counter + 1 =
+    rw added (omega (arith, length-append c.loop.flags.items (found.flag ∷ []), c.loop.invariant.1)) in
     let start : List ℕ × ℕ = ([], c.args.at) in
     let x : List (List ℕ × Flag) × (List ℕ × ℕ) = (entries_of c.loop.flags.items, (c.loop.before.now, c.loop.place)) in
-    let y : (List ℕ × Flag) × (List ℕ × ℕ) = (entry_of found.flag, (found.text.now, found.next)) in
-    (rw (e, c.as_bytes-before.ensures.value) (one_more (flag_at c.args.newest c.args.bytes.now) c.loop.counter start x y c.loop.invariant.0 c.in_ok-found.ensures.value), count, c.in_ok-found.ensures.within)
+    let y : (List ℕ × Flag) × (List ℕ × ℕ) = (entry_of found.flag, (found.text.now, found.next)) in (
+      rw (e, c.as_bytes-before.ensures.value)
+          (one_more (flag_at c.args.newest c.args.bytes.now) c.loop.counter start x y c.loop.invariant.0
+          c.in_ok-found.ensures.value),
+      count,
+      c.in_ok-found.ensures.within,
+    )

@@ -6,5 +6,6 @@ use Rattle.fp_record.proofs.image.image_from.Goals as goal
 
 pub invariant_of-result : goal.invariant_of-result
 invariant_of-result c =
-    read_in_order any_revision c.args.bytes.now c.in_ok-count.count c.in_ok-count.at (entries_of c.in_ok-flags.flags.items, c.in_ok-flags.next) (λ i. omega (arith, c.type_inv.bytes i))
+    read_in_order any_revision c.args.bytes.now c.in_ok-count.count c.in_ok-count.at
+    (entries_of c.in_ok-flags.flags.items, c.in_ok-flags.next) (λ i. omega (arith, c.type_inv.bytes i))
     c.in_ok-count.ensures.within c.in_ok-count.ensures.few c.in_ok-flags.ensures.value

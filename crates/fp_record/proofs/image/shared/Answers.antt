@@ -12,4 +12,6 @@ returns-clause-ordered c =
     let set = c.args.set.now in
     let all : entries_of c.loop-key.flags.items ≡ entries set.flags = search rules in
     let few : len set.flags ≤ MOST_FLAGS = rw (← c.len-count.ensures.len) c.len-count.ensures.bounded in
-    subst (λ (flags : List (List ℕ × Flag)). IsOrdered flags) (sym all) (set_in_order set.revision set.flags c.iter-key-items.result few c.iter-key-items.ensures.entries c.iter-key-items.ensures.changed)
+    subst (λ (flags : List (List ℕ × Flag)). IsOrdered flags) (sym all)
+    (set_in_order set.revision set.flags c.iter-key-items.result few c.iter-key-items.ensures.entries
+    c.iter-key-items.ensures.changed)

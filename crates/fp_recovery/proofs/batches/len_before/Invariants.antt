@@ -6,4 +6,6 @@ use Rattle.fp_recovery.proofs.batches.len_before.Given as goal
 
 -- what was counted and what is left are all in front of the place
 abbrev pub invariant-loop-change : goal.invariant-loop-change
-invariant-loop-change l = l.len + sum_by part_len (parts_of (map proposed_of (drop l.change-index (take l.at l.changes)))) ≡ set_len (take l.at (parts_of (map proposed_of l.changes)))
+invariant-loop-change l = l.len + sum_by part_len
+    (parts_of (map proposed_of (drop l.change-index (take l.at l.changes)))) ≡ set_len
+    (take l.at (parts_of (map proposed_of l.changes)))

@@ -14,15 +14,22 @@ returns-in_err-count-clause-read c =
     rw (p.1, p.2) (count_fails c.in_err-count.field-0.0 c.args.set.now.revision c.args.bytes.now c.in_err-count.ensures.value)
 
 pub loop-init : goal.loop-init
-loop-init c =
-    (none_read c.revision-base.result c.args.bytes.now c.in_ok-count.at c.args.set.now.flags c.requires.empty, omega arith, refl, refl, c.in_ok-count.ensures.within)
+loop-init c = (
+  none_read c.revision-base.result c.args.bytes.now c.in_ok-count.at c.args.set.now.flags c.requires.empty,
+  omega arith,
+  refl,
+  refl,
+  c.in_ok-count.ensures.within,
+)
 
 pub returns-in_err-found-clause-read : goal.returns-in_err-found-clause-read
 returns-in_err-found-clause-read c =
     let p = err_from_is_err_and c.from_residual-in_err-found.result c.from_residual-in_err-found.ensures.1 in
     let bytes = c.args.bytes.now in
     let e = c.in_err-found.field-0.0 in
-    let stopped = flags_stop c.revision-base.result c.loop.set.limit bytes c.in_ok-count.count c.in_ok-count.at c.in_ok-count.ensures.value e c.loop.counter c.loop.set.flags (c.loop.before.now, c.loop.place) c.loop-test.true c.loop.invariant.0 c.in_err-found.ensures.value in
+    let stopped = flags_stop c.revision-base.result c.loop.set.limit bytes c.in_ok-count.count c.in_ok-count.at
+    c.in_ok-count.ensures.value e c.loop.counter c.loop.set.flags (c.loop.before.now, c.loop.place)
+    c.loop-test.true c.loop.invariant.0 c.in_err-found.ensures.value in
     rw (p.1, p.2) (subst (λ (b : ℕ). Fails e (image_at b bytes)) c.revision-base.ensures.revision stopped)
 
 pub restore-requires-clause-changed : goal.restore-requires-clause-changed
@@ -30,7 +37,10 @@ restore-requires-clause-changed c =
     let flag = c.in_ok-found.found.flag in
     let room = c.requires.room in
     let limit = c.loop.invariant.3 in
-    let more = flags_more c.revision-base.result c.loop.set.limit c.args.bytes.now c.in_ok-count.count c.in_ok-count.at c.in_ok-count.ensures.value c.loop.counter c.loop.set.flags (c.loop.before.now, c.loop.place) (key_bytes flag.0) flag.1 (c.in_ok-found.found.text.now, c.in_ok-found.found.next)
+    let more = flags_more c.revision-base.result c.loop.set.limit c.args.bytes.now c.in_ok-count.count
+    c.in_ok-count.at c.in_ok-count.ensures.value c.loop.counter c.loop.set.flags
+    (c.loop.before.now, c.loop.place) (key_bytes flag.0) flag.1
+    (c.in_ok-found.found.text.now, c.in_ok-found.found.next)
     (λ i. omega (arith, c.type_inv.bytes i)) (omega (arith, room, limit)) c.loop-test.true c.loop.invariant.0 c.in_ok-found.ensures.value in
     let some = more.changed.0 in
     let old = more.changed.1 in
@@ -43,7 +53,10 @@ restore-requires-clause-room c =
     let flag = c.in_ok-found.found.flag in
     let room = c.requires.room in
     let limit = c.loop.invariant.3 in
-    let more = flags_more c.revision-base.result c.loop.set.limit c.args.bytes.now c.in_ok-count.count c.in_ok-count.at c.in_ok-count.ensures.value c.loop.counter c.loop.set.flags (c.loop.before.now, c.loop.place) (key_bytes flag.0) flag.1 (c.in_ok-found.found.text.now, c.in_ok-found.found.next)
+    let more = flags_more c.revision-base.result c.loop.set.limit c.args.bytes.now c.in_ok-count.count
+    c.in_ok-count.at c.in_ok-count.ensures.value c.loop.counter c.loop.set.flags
+    (c.loop.before.now, c.loop.place) (key_bytes flag.0) flag.1
+    (c.in_ok-found.found.text.now, c.in_ok-found.found.next)
     (λ i. omega (arith, c.type_inv.bytes i)) (omega (arith, room, limit)) c.loop-test.true c.loop.invariant.0 c.in_ok-found.ensures.value in
     more.room
 
@@ -58,11 +71,16 @@ loop-preserved c =
     let n = c.loop.counter in
     let next = c.in_ok-found.found.next in
     let before = c.as_bytes-before in
-    let more = flags_more base c.loop.set.limit bytes c.in_ok-count.count at c.in_ok-count.ensures.value n c.loop.set.flags (c.loop.before.now, c.loop.place) (key_bytes flag.0) flag.1 (c.in_ok-found.found.text.now, next)
+    let more = flags_more base c.loop.set.limit bytes c.in_ok-count.count at c.in_ok-count.ensures.value n
+    c.loop.set.flags (c.loop.before.now, c.loop.place) (key_bytes flag.0) flag.1
+    (c.in_ok-found.found.text.now, next)
     (λ i. omega (arith, c.type_inv.bytes i)) (omega (arith, room, limit)) c.loop-test.true c.loop.invariant.0 c.in_ok-found.ensures.value in
     let made = c.in_ok-restore.ensures.restored in
     let lt = c.loop-test.true in
-    let behind : AreRead base bytes at (n + 1) (fin.insert c.loop.set.flags (key_bytes flag.0) flag.1) (before.result.now, next) = subst (λ (t : List ℕ). AreRead base bytes at (n + 1) (fin.insert c.loop.set.flags (key_bytes flag.0) flag.1) (t, next)) (sym before.ensures.value) more.read in (
+    let behind : AreRead base bytes at (n + 1) (fin.insert c.loop.set.flags (key_bytes flag.0) flag.1)
+    (before.result.now, next) = subst
+    (λ (t : List ℕ). AreRead base bytes at (n + 1) (fin.insert c.loop.set.flags (key_bytes flag.0) flag.1)
+    (t, next)) (sym before.ensures.value) more.read in (
       subst (λ (f : Flags). AreRead base bytes at (n + 1) f (before.result.now, next)) (sym (ap (λ (s : State). s.flags) made)) behind,
       omega (arith, lt),
       ap (λ (s : State). s.revision) made ∙ c.loop.invariant.2,
@@ -80,5 +98,8 @@ returns-clause-read c =
     let least = c.loop-test.false in
     let most = c.loop.invariant.1 in
     let n : c.loop.counter ≡ c.in_ok-count.count = omega (arith, least, most) in
-    let all : AreRead base bytes at c.in_ok-count.count m (c.loop.before.now, place) = subst (λ (k : ℕ). AreRead base bytes at k m (c.loop.before.now, place)) n c.loop.invariant.0 in
-    subst (λ (b : ℕ). image_at b bytes ≡ Ok (fin.entries m, place)) c.revision-base.ensures.revision (flags_end base c.loop.set.limit bytes c.in_ok-count.count at c.in_ok-count.ensures.value m (c.loop.before.now, place) all)
+    let all : AreRead base bytes at c.in_ok-count.count m (c.loop.before.now, place) =
+    subst (λ (k : ℕ). AreRead base bytes at k m (c.loop.before.now, place)) n c.loop.invariant.0 in
+    subst (λ (b : ℕ). image_at b bytes ≡ Ok (fin.entries m, place)) c.revision-base.ensures.revision
+    (flags_end base c.loop.set.limit bytes c.in_ok-count.count at c.in_ok-count.ensures.value m
+    (c.loop.before.now, place) all)

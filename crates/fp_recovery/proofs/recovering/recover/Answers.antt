@@ -31,7 +31,9 @@ returns-in_err-place-clause-told g c =
 
 pub returns-clause-stands : goal.returns-clause-stands
 returns-clause-stands g c = λ h.
-    let b = g.D.Disk.bytes c.args.disk.now in let place = c.in_ok-place.place in let front = slice_range b place.slot.start place.gate in let before = c.new-restoring.result in let after = c.read_disk.new.reader in
+    let b = g.D.Disk.bytes c.args.disk.now in let place = c.in_ok-place.place in
+    let front = slice_range b place.slot.start place.gate in let before = c.new-restoring.result in
+    let after = c.read_disk.new.reader in
     let found : FoundDisk BeginsWith TakesBody b before after place.slot front = c.in_ok-place.ensures.found h in
     let at = found_at b before after place.slot front found in
     let here : StandsAt b after.set place = record {
@@ -42,13 +44,17 @@ returns-clause-stands g c = λ h.
     subst (λ (s : State). StandsAt b s place) (sym c.into_set.ensures) here
 
 pub returns-clause-found : goal.returns-clause-found
-returns-clause-found g c = λ h s stands. stands_one (g.D.Disk.bytes c.args.disk.now) c.into_set.result s (returns-clause-stands g c h).stands stands
+returns-clause-found g c = λ h s stands. stands_one (g.D.Disk.bytes c.args.disk.now) c.into_set.result s
+    (returns-clause-stands g c h).stands stands
 
 pub returns-clause-told : goal.returns-clause-told
-returns-clause-told g c = λ h f of its. standing_has_no_fault (g.D.Disk.bytes c.args.disk.now) f c.into_set.result of its (returns-clause-stands g c h).stands
+returns-clause-told g c = λ h f of its. standing_has_no_fault (g.D.Disk.bytes c.args.disk.now) f c.into_set.result of
+    its (returns-clause-stands g c h).stands
 
 pub returns-in_err-place-clause-kept : goal.returns-in_err-place-clause-kept
-returns-in_err-place-clause-kept g c = let p = err_from_is_err_and c.from_residual.result c.from_residual.ensures.1 in rw (p.1, p.2) (refuses_as c.in_err-place.ensures.kept)
+returns-in_err-place-clause-kept g c = let p =
+    err_from_is_err_and c.from_residual.result c.from_residual.ensures.1 in
+    rw (p.1, p.2) (refuses_as c.in_err-place.ensures.kept)
 
 pub returns-clause-kept : goal.returns-clause-kept
 returns-clause-kept g c = opens_as c.in_ok-place.ensures.kept

@@ -30,7 +30,9 @@ returns-in-Err-clause-broken g c =
     untouched_half g.D.Disk c.args.half c.still.ensures c.into.result (never_failed c.into.result c.into.ensures)
 
 pub returns-in_default-clause-broken : goal.returns-in_default-clause-broken
-returns-in_default-clause-broken g c = untouched_half g.D.Disk c.args.half c.still.ensures Memory (λ failed. (let both : Memory ≡ StoreFailed = failed in absurd cc))
+returns-in_default-clause-broken g c =
+    untouched_half g.D.Disk c.args.half c.still.ensures Memory
+    (λ failed. (let both : Memory ≡ StoreFailed = failed in absurd cc))
 
 pub returns-in-Err-spawn_with-clause-broken : goal.returns-in-Err-spawn_with-clause-broken
 returns-in-Err-spawn_with-clause-broken g c =
@@ -45,4 +47,5 @@ returns-in-Err-spawn_with-clause-broken g c =
 
 pub returns-in-Err-new-clause-broken : goal.returns-in-Err-new-clause-broken
 returns-in-Err-new-clause-broken g c =
-    untouched_half g.D.Disk c.args.half c.still.ensures c.into-in-Err-new.result (never_failed c.into-in-Err-new.result c.into-in-Err-new.ensures)
+    untouched_half g.D.Disk c.args.half c.still.ensures c.into-in-Err-new.result
+    (never_failed c.into-in-Err-new.result c.into-in-Err-new.ensures)

@@ -13,14 +13,17 @@ returns-in-Ok-Err-clause-broken g c =
     rw (c.into_half-in-Ok-Err.ensures) (record {
       ended = j.result.ended;
       flushed = j.ensures;
-      cause = λ _. subst (λ (r : Result (Unit {0}) Broken). OnErr r (HasBroken D first.store.disk last.store.disk last)) c.in-Ok-Err.is-1 j.ensures.cause;
+      cause = λ _. subst (λ (r : Result (Unit {0}) Broken). OnErr r
+          (HasBroken D first.store.disk last.store.disk last)) c.in-Ok-Err.is-1 j.ensures.cause;
     })
 
 -- what let connections in ended by a fault
 pub returns-in-Err-default-clause-broken : goal.returns-in-Err-default-clause-broken
 returns-in-Err-default-clause-broken g c =
     let f = c.in-Err-default.fault in
-    let fault : IsAttendingFault f = subst (λ (r : Result (Unit {0}) CommandFault). IfErr r IsAttendingFault) c.in-Err-default.is-0 c.attend-attended.ensures.fault in
+    let fault : IsAttendingFault f =
+    subst (λ (r : Result (Unit {0}) CommandFault). IfErr r IsAttendingFault) c.in-Err-default.is-0
+    c.attend-attended.ensures.fault in
     rw (c.into_half-in-Err-default.ensures) (record {
       ended = c.join-half.result.ended;
       flushed = c.join-half.ensures;

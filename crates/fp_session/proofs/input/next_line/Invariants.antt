@@ -7,7 +7,9 @@ use Rattle.fp_session.proofs.input.next_line.Given as goal
 -- the lines that ended so far were blank
 abbrev pub invariant-loop-at : goal.invariant-loop-at
 invariant-loop-at l = record {
-  asks : (reads : Option (List ℕ)) (all : List Ask) → AskLines (lines_at false l.initial.line l.initial.chunk) reads all → AskLines (lines_at false l.line l.chunk) reads all;
+  asks : (reads : Option (List ℕ)) (all : List Ask) →
+      AskLines (lines_at false l.initial.line l.initial.chunk) reads all →
+      AskLines (lines_at false l.line l.chunk) reads all;
   fewer : length l.chunk ≤ length l.initial.chunk;
 }
 

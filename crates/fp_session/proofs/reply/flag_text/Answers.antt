@@ -10,5 +10,6 @@ pub returns-in_default : goal.returns-in_default
 returns-in_default c =
     let e = c.args.fault.now in
     let first = told e c.in_default.not-Memory in
-    IfOk-weaker c.detail_text.result (λ t. (f : is.Fault) → tells e ≡ Some f → t.items ≡ flag_text f) (λ t. t.items ≡ reply_text (bad_flag_or_memory (tells e)))
+    IfOk-weaker c.detail_text.result (λ t. (f : is.Fault) → tells e ≡ Some f → t.items ≡ flag_text f)
+    (λ t. t.items ≡ reply_text (bad_flag_or_memory (tells e)))
     (λ t said. said first.0 first.1 ∙ ap (λ o. reply_text (bad_flag_or_memory o)) (sym first.1)) c.detail_text.ensures

@@ -14,5 +14,7 @@ pub returns-in_ok-text-in_default : goal.returns-in_ok-text-in_default
 returns-in_ok-text-in_default c =
     let e = c.args.fault.now in let at = c.args.at in
     let first = told e c.in_default.not-Memory in
-    IfOk-weaker c.placed.result (λ t. t.items ≡ placed at c.deref.result.now) (λ t. t.items ≡ reply_text (bad_flag_in_or_memory at (tells e)))
-    (λ t said. said ∙ ap (placed at) (c.deref.ensures.value ∙ c.in_ok-text-in_default.ensures first.0 first.1) ∙ ap (λ o. reply_text (bad_flag_in_or_memory at o)) (sym first.1)) c.placed.ensures
+    IfOk-weaker c.placed.result (λ t. t.items ≡ placed at c.deref.result.now)
+    (λ t. t.items ≡ reply_text (bad_flag_in_or_memory at (tells e)))
+    (λ t said. said ∙ ap (placed at) (c.deref.ensures.value ∙ c.in_ok-text-in_default.ensures first.0 first.1) ∙
+    ap (λ o. reply_text (bad_flag_in_or_memory at o)) (sym first.1)) c.placed.ensures

@@ -15,13 +15,19 @@ loop-rest-preserved c =
     let rest = c.loop-rest.rest.now in
     let front = c.split_at.result.0.now in
     let behind = c.split_at.result.1.now in
-    let split : rest ≡ front ++ behind = sym (take-append-drop 16 rest) ∙ ap₂ (λ (a b : List ℕ). a ++ b) (sym c.split_at.ensures.front) (sym c.split_at.ensures.back) in
-    let whole : IsWhole c.loop-rest.has front behind (snapshot_of frame) = subst (λ (x : Found). IsFound c.loop-rest.has front behind x) c.in-Whole.is c.in_ok-frame.ensures in
+    let split : rest ≡ front ++ behind = sym (take-append-drop 16 rest) ∙
+    ap₂ (λ (a b : List ℕ). a ++ b) (sym c.split_at.ensures.front) (sym c.split_at.ensures.back) in
+    let whole : IsWhole c.loop-rest.has front behind (snapshot_of frame) =
+    subst (λ (x : Found). IsFound c.loop-rest.has front behind x) c.in-Whole.is c.in_ok-frame.ensures in
     let len : c.len.result ≡ length frame.body.items = omega (arith, frame.body.ok.0) in
     let left : take (length behind - c.len.result) (drop c.len.result behind) ≡ drop (length frame.body.items) behind =
-    take_all (length behind - c.len.result) (drop c.len.result behind) (omega (arith, length-drop c.len.result behind)) ∙ ap (λ (n : ℕ). drop n behind) len
+    take_all (length behind - c.len.result) (drop c.len.result behind)
+    (omega (arith, length-drop c.len.result behind)) ∙ ap (λ (n : ℕ). drop n behind) len
     in
     let items : c.push.new.self.items ≡ c.loop-rest.frames.items ++ frame ∷ [] = c.in_ok-push.ensures.items in
-    subst (λ (t : List ℕ). Passes c.args.has c.args.bytes.now c.args.frames.now.items c.push.new.self.items (Has frame.revision) t) (sym left)
-    (subst (λ (t : List Frame). Passes c.args.has c.args.bytes.now c.args.frames.now.items t (Has frame.revision) (drop (length frame.body.items) behind)) (sym items)
-    (Passes-push c.args.has c.args.bytes.now c.args.frames.now.items c.loop-rest.frames.items c.loop-rest.has rest front behind frame c.loop-rest.invariant split whole))
+    subst (λ (t : List ℕ). Passes c.args.has c.args.bytes.now c.args.frames.now.items c.push.new.self.items
+    (Has frame.revision) t) (sym left)
+    (subst (λ (t : List Frame). Passes c.args.has c.args.bytes.now c.args.frames.now.items t (Has frame.revision)
+    (drop (length frame.body.items) behind)) (sym items)
+    (Passes-push c.args.has c.args.bytes.now c.args.frames.now.items c.loop-rest.frames.items c.loop-rest.has rest
+    front behind frame c.loop-rest.invariant split whole))

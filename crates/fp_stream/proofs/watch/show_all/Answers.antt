@@ -26,8 +26,11 @@ loop-frame-preserved g c =
     let steps = c.in-Some.ensures.steps in let short = ap length steps.0 in let was = inv.counted in let gone = steps.1 in record {
       done = inv.done ++ one ∷ [];
       parts = append_assoc inv.done (one ∷ []) rest ∙ ap (λ items. inv.done ++ snapshots_of items) (sym steps.0) ∙ inv.parts;
-      shown = subst (λ (t : List ℕ). Appends (k c.args.w.now.inner) (k c.show.new.w.inner) t) (ap (λ (t : List ℕ). lines_of inv.done ++ t) (sym (append-nil (line_of one))) ∙ sym (lines_of-append inv.done (one ∷ [])))
-          (Appends-trans (k c.args.w.now.inner) (k c.loop-frame.w.inner) (k c.show.new.w.inner) (lines_of inv.done) (line_of one) inv.shown c.in_ok-show.ensures.shown);
+      shown = subst (λ (t : List ℕ). Appends (k c.args.w.now.inner) (k c.show.new.w.inner) t)
+          (ap (λ (t : List ℕ). lines_of inv.done ++ t) (sym (append-nil (line_of one))) ∙
+          sym (lines_of-append inv.done (one ∷ [])))
+          (Appends-trans (k c.args.w.now.inner) (k c.loop-frame.w.inner) (k c.show.new.w.inner) (lines_of inv.done)
+          (line_of one) inv.shown c.in_ok-show.ensures.shown);
       counted = omega arith;
       sent_well = c.in_ok-show.ensures.counted ∙ inv.sent_well;
     }
@@ -36,5 +39,7 @@ pub returns-clause-shown : goal.returns-clause-shown
 returns-clause-shown g c =
     let inv = c.loop-frame.invariant in
     let none : into_iter_items c.loop-frame.frame-iterator ≡ [] = nil_from_length _ (inv.counted ∙ c.in-None.ensures.steps.0) in
-    let whole : inv.done ≡ snapshots_of c.args.frames.items = sym (append-nil inv.done) ∙ ap (λ items. inv.done ++ snapshots_of items) (sym none) ∙ inv.parts in
-    subst (λ (xs : List Snapshot). Appends (g.W.Write.contents c.args.w.now.inner) (g.W.Write.contents c.loop-frame.w.inner) (lines_of xs)) whole inv.shown
+    let whole : inv.done ≡ snapshots_of c.args.frames.items = sym (append-nil inv.done) ∙
+    ap (λ items. inv.done ++ snapshots_of items) (sym none) ∙ inv.parts in
+    subst (λ (xs : List Snapshot). Appends (g.W.Write.contents c.args.w.now.inner)
+    (g.W.Write.contents c.loop-frame.w.inner) (lines_of xs)) whole inv.shown

@@ -20,7 +20,8 @@ loop-preserved g c =
           let n = w.in-Ok.count in
           let short : n ≤ length rest = search rules in
           let more = goes-over c.args.first.now done rest n split in
-          let wrote = writes-part _ _ _ done rest c.args.second.now _ _ n c.new.ensures c.new-in-loop.ensures short before w.in-Ok.ensures.bytes in
+          let wrote = writes-part _ _ _ done rest c.args.second.now _ _ n c.new.ensures c.new-in-loop.ensures short
+          before w.in-Ok.ensures.bytes in
           (done ++ take n rest, search rules, wrote)
       | in-Err w ↦ (done, search rules, Appends-kept _ _ _ done before w.in-Err.ensures.bytes)
     ]

@@ -19,4 +19,5 @@ pub returns-else-eq : goal.returns-else-eq
 returns-else-eq c =
     let cut = rw c.in-Some.is at (split_parts 46 c.args.path.now c.split_once.result c.split_once.ensures.cases (omega arith)) in
     let other : bytes_eq c.in-Some.first.now (codes "$flagd") ≡ false = sym c.eq-in-Some.ensures ∙ c.if-eq.false in
-    c.if-eq.false ∙ sym (ap parts_read (ap parts cut.0 ∙ parts_cut _ _ cut.1) ∙ ap (λ b. b && is_of_the_moment (parts c.in-Some.rest.now)) other)
+    c.if-eq.false ∙ sym (ap parts_read (ap parts cut.0 ∙ parts_cut _ _ cut.1) ∙
+    ap (λ b. b && is_of_the_moment (parts c.in-Some.rest.now)) other)

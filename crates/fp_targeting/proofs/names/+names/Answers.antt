@@ -11,7 +11,8 @@ pub unknown_operator-returns-then-len-ne1 : goal.unknown_operator-returns-then-l
 unknown_operator-returns-then-len-ne1 t c =
     let v = c.in-Object.members in
     let others : length v.items ≢ 1 = grind (arith, v.ok, c.len.ensures, c.if-len-ne1.true) in
-    sym (ap first_unknown (ap tree_view c.in-Object.is ∙ view-Object v) ∙ known-plain (object (tree_members v.items)) (others-plain v.items others))
+    sym (ap first_unknown (ap tree_view c.in-Object.is ∙ view-Object v) ∙
+    known-plain (object (tree_members v.items)) (others-plain v.items others))
 
 pub unknown_operator-returns-then-is_none : goal.unknown_operator-returns-then-is_none
 unknown_operator-returns-then-is_none t c =

@@ -13,7 +13,9 @@ returns-then-comes_last-clause-members c =
     let ms = c.args.self.now.ordered.items in
     let waiting = c.args.self.now.waiting.items in
     let none : length waiting ≡ 0 = grind arith in
-    let placed = put-at_end ms c.push.new.self.items m (subst (AreBefore c.args.name.now) c.deref.ensures.value (c.comes_last.ensures c.if-comes_last.true)) c.in_ok-push.ensures.items in
+    let placed = put-at_end ms c.push.new.self.items m
+    (subst (AreBefore c.args.name.now) c.deref.ensures.value (c.comes_last.ensures c.if-comes_last.true))
+    c.in_ok-push.ensures.items in
     none-waits (tree_members c.push.new.self.items) waiting none ∙ placed
     ∙ ap (put m.0.now (tree_view m.1)) (sym (none-waits (tree_members ms) waiting none))
 
@@ -21,7 +23,9 @@ pub returns-then-comes_last-clause-kept : goal.returns-then-comes_last-clause-ke
 returns-then-comes_last-clause-kept c =
     let m : Entry = (c.args.name, c.args.tree) in
     let ms = c.args.self.now.ordered.items in
-    let placed = put-at_end ms c.push.new.self.items m (subst (AreBefore c.args.name.now) c.deref.ensures.value (c.comes_last.ensures c.if-comes_last.true)) c.in_ok-push.ensures.items in
+    let placed = put-at_end ms c.push.new.self.items m
+    (subst (AreBefore c.args.name.now) c.deref.ensures.value (c.comes_last.ensures c.if-comes_last.true))
+    c.in_ok-push.ensures.items in
     let waiting = c.args.self.now.waiting.items in
     let none : length waiting ≡ 0 = grind arith in
     (subst IsSorted (sym placed) (sorted-put m.0.now (tree_view m.1) (tree_members ms) c.requires.0), λ h. none-falls waiting none)

@@ -8,7 +8,8 @@ use Rattle.fp_base.proofs.gathering.Gathered.put_apart.Goals as goal
 
 pub returns-then-waiting-lt-MOST_WAITING-clause-members : goal.returns-then-waiting-lt-MOST_WAITING-clause-members
 returns-then-waiting-lt-MOST_WAITING-clause-members c =
-    laid-last (tree_members c.args.self.now.ordered.items) c.args.self.now.waiting.items c.push.new.self.items (c.args.name, c.args.tree) c.in_ok-push.ensures.items
+    laid-last (tree_members c.args.self.now.ordered.items) c.args.self.now.waiting.items c.push.new.self.items
+    (c.args.name, c.args.tree) c.in_ok-push.ensures.items
 
 pub returns-clause-members : goal.returns-clause-members
 returns-clause-members c =

@@ -22,5 +22,6 @@ returns-then-len-eq1-clause-members c =
     none-ordered c.replace.new.dest.items c.replace.result.items left
     ∙ ap (λ v. laid no_members v.items) c.replace.ensures.value
     ∙ alone-laid ordered waiting one none in
-    subst (λ ms. OnOk c.put_falling-then-len-eq1.result (gathered c.put_falling-then-len-eq1.new.self ≡ put c.args.name.now (tree_view c.args.tree) ms)) same
+    subst (λ ms. OnOk c.put_falling-then-len-eq1.result
+    (gathered c.put_falling-then-len-eq1.new.self ≡ put c.args.name.now (tree_view c.args.tree) ms)) same
     c.put_falling-then-len-eq1.ensures.members

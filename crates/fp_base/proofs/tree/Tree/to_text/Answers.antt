@@ -1,4 +1,4 @@
-use Rattle.std.proofs.Common.{sym, ap, ◌∙◌, ◌++◌}
+use Rattle.std.proofs.Common.{ap, ◌∙◌, ◌++◌}
 use Rattle.serde_json.specs.Written.{compact_text}
 use Rattle.fp_base.specs.Json.{json_of}
 use Rattle.fp_base.specs.TreeView.{tree_view}
@@ -11,4 +11,6 @@ returns-clause-text c =
 
 pub returns-clause-reads : goal.returns-clause-reads
 returns-clause-reads c =
-    ap json_of (returns-clause-text c) ∙ reads_back (tree_view c.args.self.now) c.in_ok-put_text.ensures.printed c.requires.ordered c.requires.whole c.requires.flat
+    ap json_of (returns-clause-text c) ∙
+    reads_back (tree_view c.args.self.now) c.in_ok-put_text.ensures.printed c.requires.ordered c.requires.whole
+    c.requires.flat

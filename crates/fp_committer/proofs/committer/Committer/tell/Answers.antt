@@ -7,4 +7,5 @@ pub returns-clause-exit : goal.returns-clause-exit
 returns-clause-exit g c =
     let d = c.self.inside.desk.desk in let b = c.self.inside.store in let i = c.self.invariant in
     let low : c.max-self-inside.result ≤ settled_revision d = search rules in
-    λ h o out. keeps.told_kept d b c.max-self-inside.result i.halves.same i.agree.0 i.agree.1 c.rest.ensures.whole low o (c.rest.ensures.exit h o out)
+    λ h o out. keeps.told_kept d b c.max-self-inside.result i.halves.same i.agree.0 i.agree.1 c.rest.ensures.whole
+    low o (c.rest.ensures.exit h o out)

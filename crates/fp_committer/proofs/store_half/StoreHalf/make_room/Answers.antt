@@ -13,19 +13,26 @@ make_room-requires-clause-keeps g c =
 pub invariant_of-self : goal.invariant_of-self
 invariant_of-self g c =
     let D = g.D.Disk in let s = c.self.inside.store in let n = c.make_room.new.store in let e = c.make_room.ensures in
-    seals.stays_half D c.self.invariant n (seals.either_way c.make_room.result _ _ _ e.proceeds e.halts (λ p. p.stays) (seals.stayed D s n c.in-Drawn.draw))
+    seals.stays_half D c.self.invariant n
+    (seals.either_way c.make_room.result _ _ _ e.proceeds e.halts (λ p. p.stays)
+    (seals.stayed D s n c.in-Drawn.draw))
 
 pub returns-clause-kept : goal.returns-clause-kept
 returns-clause-kept g c =
     let D = g.D.Disk in let s = c.self.inside.store in let n = c.make_room.new.store in let e = c.make_room.ensures in
-    rw (← c.self.view_is) (seals.stays_calls D c.self.invariant n (seals.either_way c.make_room.result _ _ _ e.proceeds e.halts (λ p. p.stays) (seals.stayed D s n c.in-Drawn.draw)) _ _)
+    rw (← c.self.view_is) (seals.stays_calls D c.self.invariant n
+    (seals.either_way c.make_room.result _ _ _ e.proceeds e.halts (λ p. p.stays)
+    (seals.stayed D s n c.in-Drawn.draw)) _ _)
 
 pub returns-clause-cause : goal.returns-clause-cause
 returns-clause-cause g c =
     let D = g.D.Disk in let s = c.self.inside.store in let half = c.self.inside.half in let n = c.make_room.new.store in
     let o = subst (λ (x : Held). IsOut x s half.settled) c.in-Drawn.is c.self.invariant.out in
-    rw (← c.self.view_is, c.in-Drawn.is) (seals.no_room_made D s n half c.in-Drawn.draw o batch_drawn c.in-Drawn.draw.changes c.make_room.result c.make_room.ensures.halts)
+    rw (← c.self.view_is, c.in-Drawn.is)
+    (seals.no_room_made D s n half c.in-Drawn.draw o batch_drawn c.in-Drawn.draw.changes c.make_room.result
+    c.make_room.ensures.halts)
 
 pub returns-clause-called : goal.returns-clause-called
 returns-clause-called g c =
-    rw (← c.self.view_is) (seals.broke_off g.D.Disk c.self.inside.store c.make_room.new.store c.in-Drawn.draw c.make_room.result c.make_room.ensures.halts)
+    rw (← c.self.view_is) (seals.broke_off g.D.Disk c.self.inside.store c.make_room.new.store c.in-Drawn.draw
+    c.make_room.result c.make_room.ensures.halts)

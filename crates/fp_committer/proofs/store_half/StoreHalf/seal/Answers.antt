@@ -8,10 +8,13 @@ returns-in_err-write-clause-kept g c =
 pub returns-clause-kept : goal.returns-clause-kept
 returns-clause-kept g c =
     let D = g.D.Disk in let m = c.make_room.new.self in let n = c.write.new.self in
-    courses.calls_then D c.args.self.now n c.make_sure.new.self (courses.calls_then D c.args.self.now m n c.make_room.ensures.kept c.write.ensures.kept) c.make_sure.ensures.kept
+    courses.calls_then D c.args.self.now n c.make_sure.new.self
+    (courses.calls_then D c.args.self.now m n c.make_room.ensures.kept c.write.ensures.kept)
+    c.make_sure.ensures.kept
 
 pub returns-clause-well : goal.returns-clause-well
 returns-clause-well g c =
     let D = g.D.Disk in let m = c.make_room.new.self in let n = c.write.new.self in let d = c.make_sure.new.self in
     let wrote = c.in_ok-write.ensures.staged in
-    courses.whole_by D c.args.self.now m n d c.in_ok-make_room.ensures.well c.in_ok-make_room.ensures.room.early wrote c.make_sure.result c.make_sure.ensures.sealed
+    courses.whole_by D c.args.self.now m n d c.in_ok-make_room.ensures.well c.in_ok-make_room.ensures.room.early
+    wrote c.make_sure.result c.make_sure.ensures.sealed

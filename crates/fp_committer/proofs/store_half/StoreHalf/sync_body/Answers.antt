@@ -11,13 +11,19 @@ use Rattle.fp_committer.proofs.Ways as ways
 use Rattle.fp_committer.proofs.store_half.StoreHalf.sync_body.Goals as goal
 
 pub returns-then-failed-clause-kept : goal.returns-then-failed-clause-kept
-returns-then-failed-clause-kept g c = rw (← c.self.view_is) (keeps.stays g.D.Disk c.self.invariant _ _ _ _ g.met.D.Disk.only_now tt refl refl)
+returns-then-failed-clause-kept g c =
+    rw (← c.self.view_is) (keeps.stays g.D.Disk c.self.invariant _ _ _ _ g.met.D.Disk.only_now tt refl refl)
 
 pub returns-in_default : goal.returns-in_default
 returns-in_default g c =
     let s = c.self.inside.store in let half = c.self.inside.half in let h = c.self.inside.held in let i = c.self.invariant in
     rw (← c.self.view_is) (record {
-      steps = (sym c.failed.ensures ∙ c.if-failed.false, (λ at. c.in_default.not-Staged (c.phase.ensures.phase ∙ ways.when_at s half.settled h i.out batch_staged at)), refl);
+      steps = (
+        sym c.failed.ensures ∙ c.if-failed.false,
+        (λ at. c.in_default.not-Staged
+            (c.phase.ensures.phase ∙ ways.when_at s half.settled h i.out batch_staged at)),
+        refl,
+      );
       kept = keeps.stays g.D.Disk i _ _ _ _ g.met.D.Disk.only_now tt refl refl;
       called = refl;
     })
@@ -38,26 +44,37 @@ invariant_of-self-2 g c =
 
 pub returns-in_default-sync_body : goal.returns-in_default-sync_body
 returns-in_default-sync_body g c =
-    let D = g.D.Disk in let m = g.met.D.Disk in let e = c.sync_body.ensures in let s = c.self.inside.store in let half = c.self.inside.half in let n = c.sync_body.new.self in let h = c.self.inside.held in let i = c.self.invariant in
+    let D = g.D.Disk in let m = g.met.D.Disk in let e = c.sync_body.ensures in let s = c.self.inside.store in
+    let half = c.self.inside.half in let n = c.sync_body.new.self in let h = c.self.inside.held in
+    let i = c.self.invariant in
     let at : s.phase ≡ Staged = search rules in
     let air = ways.in_air s half.settled h i.out (ap is_in_flight at) in
     let on : n.phase ≡ BodySynced = search rules in
     let moved = c.in_default-sync_body.ensures.moves.ok in
     rw (← c.self.view_is) (record {
-      steps = ways.done D.faults (IsAt batch_staged) body_synced h h s n BodySynced moved e.moves.same_room (air s.phase ∙ ap in_flight_at at) (air n.phase ∙ ap in_flight_at on);
-      kept = keeps.calls D s n half _ _ _ _ m.counts_now (Leaves s) (keeps.kept_then D i n e.moves.same.0) tt e.moves.same.0 (out.held_same s n h e.moves.same.2) e.disk.any_moment e.disk.honest moved.no_failure;
+      steps = ways.done D.faults (IsAt batch_staged) body_synced h h s n BodySynced moved e.moves.same_room
+          (air s.phase ∙ ap in_flight_at at) (air n.phase ∙ ap in_flight_at on);
+      kept = keeps.calls D s n half _ _ _ _ m.counts_now (Leaves s) (keeps.kept_then D i n e.moves.same.0) tt
+          e.moves.same.0 (out.held_same s n h e.moves.same.2) e.disk.any_moment e.disk.honest moved.no_failure;
       called = c.in_default-sync_body.ensures.disk.called;
     })
 
 pub returns : goal.returns
 returns g c =
-    let D = g.D.Disk in let m = g.met.D.Disk in let e = c.sync_body.ensures in let s = c.self.inside.store in let half = c.self.inside.half in let n = c.sync_body.new.self in let h = c.self.inside.held in let i = c.self.invariant in
+    let D = g.D.Disk in let m = g.met.D.Disk in let e = c.sync_body.ensures in let s = c.self.inside.store in
+    let half = c.self.inside.half in let n = c.sync_body.new.self in let h = c.self.inside.held in
+    let i = c.self.invariant in
     let at : s.phase ≡ Staged = search rules in
     let air = ways.in_air s half.settled h i.out (ap is_in_flight at) in
     let on : n.phase ≡ Staged = search rules in
     let f = c.in-Err.fault in let why = c.in-Err.ensures.moves.fault in
     rw (← c.self.view_is) (record {
-      steps = subst (λ (x : StoreHalfState g.row.D.Denot). Advances (IsAt batch_staged) body_synced (way_by x) (answer.Fault f) (ways.At h n)) c.self.view_is (ways.fails D.faults (IsAt batch_staged) body_synced f h s n why c.in-Err.ensures.moves.phase (air s.phase ∙ ap in_flight_at at));
-      kept = keeps.calls D s n half _ _ _ _ m.counts_now (Leaves s) (keeps.kept_then D i n e.moves.same.0) tt e.moves.same.0 (out.held_same s n h e.moves.same.2) e.disk.any_moment e.disk.honest (ways.rise_of_fail D.faults f s n why);
+      steps = subst (λ (x : StoreHalfState g.row.D.Denot). Advances (IsAt batch_staged) body_synced (way_by x)
+          (answer.Fault f) (ways.At h n)) c.self.view_is
+          (ways.fails D.faults (IsAt batch_staged) body_synced f h s n why c.in-Err.ensures.moves.phase
+          (air s.phase ∙ ap in_flight_at at));
+      kept = keeps.calls D s n half _ _ _ _ m.counts_now (Leaves s) (keeps.kept_then D i n e.moves.same.0) tt
+          e.moves.same.0 (out.held_same s n h e.moves.same.2) e.disk.any_moment e.disk.honest
+          (ways.rise_of_fail D.faults f s n why);
       called = ways.calls_of_fail D.faults D.calls Sync f s n why c.in-Err.ensures.disk.called;
     })

@@ -13,5 +13,7 @@ returns-clause-resolves c =
     let d = data_of c.args.self.now in
     let x = view c.datum.result.now in
     let means : Means c.args.rule.now c.args.data.now x = search rules in
-    spells c.named_by.result (by_result d x) (λ (o : Result Said EvalFault). (y : value.Data) × Means c.args.rule.now c.args.data.now y × (o ≡ by_result d y))
+    spells c.named_by.result (by_result d x)
+    (λ (o : Result Said EvalFault). (y : value.Data) × Means c.args.rule.now c.args.data.now y ×
+    (o ≡ by_result d y))
     (x, means, refl) c.named_by.ensures.resolves

@@ -7,7 +7,8 @@ use Rattle.fp_definition.proofs.definition.Definition.reads_moment.Goals as goal
 
 pub returns-in-Some : goal.returns-in-Some
 returns-in-Some c h =
-    outcome-timeless (data_of c.args.self.now) (subst (λ r. IfSome r RuleIsTimeless) (sym c.in-Some.is ∙ c.rule.ensures) (c.reads_moment.ensures h))
+    outcome-timeless (data_of c.args.self.now)
+    (subst (λ r. IfSome r RuleIsTimeless) (sym c.in-Some.is ∙ c.rule.ensures) (c.reads_moment.ensures h))
 
 pub returns-in-None : goal.returns-in-None
 returns-in-None c h =

@@ -10,4 +10,8 @@ pub returns-in-None-clause-resolves : goal.returns-in-None-clause-resolves
 returns-in-None-clause-resolves c =
     let d = data_of c.args.self.now in
     let none : c.rule.result.now ≡ None = search rules in
-    spells c.default_of.result (by_default Static d) (Resolves d (key_bytes c.args.key.now) (view c.args.context.now) c.args.now) (resolves_default d (key_bytes c.args.key.now) (view c.args.context.now) c.args.now (sym c.is_disabled.ensures ∙ c.if-is_disabled.false) (sym c.rule.ensures ∙ none)) c.default_of.ensures.resolves
+    spells c.default_of.result (by_default Static d)
+    (Resolves d (key_bytes c.args.key.now) (view c.args.context.now) c.args.now)
+    (resolves_default d (key_bytes c.args.key.now) (view c.args.context.now) c.args.now
+    (sym c.is_disabled.ensures ∙ c.if-is_disabled.false) (sym c.rule.ensures ∙ none))
+    c.default_of.ensures.resolves

@@ -8,5 +8,6 @@ pub returns-clause-resolves : goal.returns-clause-resolves
 returns-clause-resolves c = λ context now of_context.
     let d = data_of c.args.self.now in let key = key_bytes c.args.key.now in
     spells_weaker c.by_rule.result _ (Resolves d key context now)
-    (resolves_rule d key context now (sym c.is_disabled.ensures ∙ c.if-is_disabled.false) c.in-Some.rule c.turn.new.«data» (sym c.rule.ensures ∙ c.in-Some.is) (c.turn.ensures context now of_context))
+    (resolves_rule d key context now (sym c.is_disabled.ensures ∙ c.if-is_disabled.false) c.in-Some.rule
+    c.turn.new.«data» (sym c.rule.ensures ∙ c.in-Some.is) (c.turn.ensures context now of_context))
     c.by_rule.ensures.resolves

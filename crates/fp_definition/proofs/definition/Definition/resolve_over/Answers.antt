@@ -8,4 +8,6 @@ pub returns-in_default-clause-resolves : goal.returns-in_default-clause-resolves
 returns-in_default-clause-resolves c = λ key context now same.
     let d = data_of c.args.self.now in
     let none : c.rule.result.now ≡ None = search rules in
-    spells c.default_of.result (by_default Static d) (Resolves d key context now) (resolves_default d key context now (sym c.is_disabled.ensures ∙ c.if-is_disabled.false) (sym c.rule.ensures ∙ none)) c.default_of.ensures.resolves
+    spells c.default_of.result (by_default Static d) (Resolves d key context now)
+    (resolves_default d key context now (sym c.is_disabled.ensures ∙ c.if-is_disabled.false)
+    (sym c.rule.ensures ∙ none)) c.default_of.ensures.resolves

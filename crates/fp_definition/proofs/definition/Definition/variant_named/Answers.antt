@@ -26,4 +26,5 @@ returns-in-None-clause-resolves c =
     let is = c.choice.ensures in let name = c.args.name.now in
     let same = ap₂ (λ xs vs. spelled xs vs no_members) c.text.ensures.text c.deref.ensures.value ∙ is.values.spelled in
     ap (λ o. outcome_spelled (outcome_of_variant name c.args.reason o)) is.variants
-    ∙ said_none (get_member name is.members) name c.args.reason (c.in-None.ensures.value ∙ ap (get_member name) same ∙ get_texts name is.members)
+    ∙ said_none (get_member name is.members) name c.args.reason
+    (c.in-None.ensures.value ∙ ap (get_member name) same ∙ get_texts name is.members)

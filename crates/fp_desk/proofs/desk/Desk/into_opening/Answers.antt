@@ -7,4 +7,5 @@ use Rattle.fp_desk.proofs.desk.Desk.into_opening.Goals as goal
 pub into_opening-requires-clause-nothing : goal.into_opening-requires-clause-nothing
 into_opening-requires-clause-nothing c =
     let d = c.self.inside in
-    no_front d.settled.edits (changes_of d.drawn.items ++ changes_of d.waiting.items) (ap (λ (x : DeskState). log x) c.self.view_is ∙ c.requires)
+    no_front d.settled.edits (changes_of d.drawn.items ++ changes_of d.waiting.items)
+    (ap (λ (x : DeskState). log x) c.self.view_is ∙ c.requires)

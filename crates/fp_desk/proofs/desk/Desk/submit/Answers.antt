@@ -17,39 +17,72 @@ use Rattle.fp_desk.proofs.desk.Desk.submit.Goals.{After-len-2, After-try_reserve
 
 module _ (c : goal.After-len-2) where
   abbrev Old : DeskState
-  Old = record { store = c.self.inside.settled.store; settled = c.self.inside.settled.edits; drawn = changes_of c.self.inside.drawn.items; waiting = changes_of c.self.inside.waiting.items; stopped = c.self.inside.stopped; last = c.self.inside.settled.last }
+  Old = record {
+    store = c.self.inside.settled.store;
+    settled = c.self.inside.settled.edits;
+    drawn =
+        changes_of c.self.inside.drawn.items;
+    waiting = changes_of c.self.inside.waiting.items;
+    stopped =
+        c.self.inside.stopped;
+    last = c.self.inside.settled.last;
+  }
 
   admitted : refusal (head Old) (proposal_of c.args.edit) ≡ None
   admitted = judged Old _ _ _ c.self.invariant (proposal_of c.args.edit) _ _ c.judge.ensures c.in_default.is
 
   unsettled : unsettled_count Old ≡ c.len.result + c.len-2.result
-  unsettled = counted c.self.inside.drawn.items c.self.inside.waiting.items _ _ (c.len.ensures ∙ c.self.inside.drawn.ok.0) (c.len-2.ensures ∙ c.self.inside.waiting.ok.0)
+  unsettled = counted c.self.inside.drawn.items c.self.inside.waiting.items _ _
+      (c.len.ensures ∙ c.self.inside.drawn.ok.0) (c.len-2.ensures ∙ c.self.inside.waiting.ok.0)
 
   memory : c.len.result + c.len-2.result < MOST_QUEUED → Refuses c.args.self.now (proposal_of c.args.edit) Memory
-  memory low = subst (λ (d : DeskState). Refuses d (proposal_of c.args.edit) Memory) c.self.view_is (c.if-self.false, admitted, subst (λ (n : ℕ). n < MOST_QUEUED) (sym unsettled) low)
+  memory low = subst (λ (d : DeskState). Refuses d (proposal_of c.args.edit) Memory) c.self.view_is
+      (c.if-self.false, admitted, subst (λ (n : ℕ). n < MOST_QUEUED) (sym unsettled) low)
 
 module _ (c : goal.After-try_reserve) where
-  unchanged : (record { store = c.self.inside.settled.store; settled = c.self.inside.settled.edits; drawn = changes_of c.self.inside.drawn.items; waiting = changes_of c.try_reserve.new.self.items; stopped = c.self.inside.stopped; last = c.self.inside.settled.last }) ≡ c.args.self.now
+  unchanged : (record {
+    store = c.self.inside.settled.store;
+    settled = c.self.inside.settled.edits;
+    drawn =
+        changes_of c.self.inside.drawn.items;
+    waiting = changes_of c.try_reserve.new.self.items;
+    stopped =
+        c.self.inside.stopped;
+    last = c.self.inside.settled.last;
+  }) ≡ c.args.self.now
   unchanged =
-      ap (λ (l : List Edit). record { store = c.self.inside.settled.store; settled = c.self.inside.settled.edits; drawn = changes_of c.self.inside.drawn.items; waiting = changes_of l; stopped = c.self.inside.stopped; last = c.self.inside.settled.last }) c.try_reserve.ensures.items ∙ c.self.view_is
+      ap (λ (l : List Edit). record {
+        store = c.self.inside.settled.store;
+        settled =
+            c.self.inside.settled.edits;
+        drawn = changes_of c.self.inside.drawn.items;
+        waiting =
+            changes_of l;
+        stopped = c.self.inside.stopped;
+        last = c.self.inside.settled.last;
+      })
+      c.try_reserve.ensures.items ∙ c.self.view_is
 
 pub overflow_add-len : goal.overflow_add-len
 overflow_add-len c = fits_both _ _ _ _ _ _ c.len.ensures c.len-2.ensures c.self.inside.drawn.small c.self.inside.waiting.small
 
 pub returns-in-Some-clause-refused : goal.returns-in-Some-clause-refused
 returns-in-Some-clause-refused c =
-    subst (λ (d : DeskState). Refuses d (proposal_of c.args.edit) (OfEdit c.in-Some.fault)) c.self.view_is (c.if-self.false, judged _ _ _ _ c.self.invariant (proposal_of c.args.edit) _ _ c.judge.ensures c.in-Some.is)
+    subst (λ (d : DeskState). Refuses d (proposal_of c.args.edit) (OfEdit c.in-Some.fault)) c.self.view_is
+    (c.if-self.false, judged _ _ _ _ c.self.invariant (proposal_of c.args.edit) _ _ c.judge.ensures c.in-Some.is)
 
 pub returns-then-len-ge-MOST_QUEUED-clause-refused : goal.returns-then-len-ge-MOST_QUEUED-clause-refused
 returns-then-len-ge-MOST_QUEUED-clause-refused c =
     let at = (goal.at.returns-then-len-ge-MOST_QUEUED-clause-refused c).After-len-2 in
-    subst (λ (d : DeskState). Refuses d (proposal_of c.args.edit) QueueFull) c.self.view_is (c.if-self.false, admitted at, full _ _ _ _ c.self.invariant _ (unsettled at) c.if-len-ge-MOST_QUEUED.true)
+    subst (λ (d : DeskState). Refuses d (proposal_of c.args.edit) QueueFull) c.self.view_is
+    (c.if-self.false, admitted at, full _ _ _ _ c.self.invariant _ (unsettled at) c.if-len-ge-MOST_QUEUED.true)
 
 pub returns-then-is_err-clause-refused : goal.returns-then-is_err-clause-refused
 returns-then-is_err-clause-refused c = memory (goal.at.returns-then-is_err-clause-refused c).After-len-2 c.if-len-ge-MOST_QUEUED.false
 
 pub returns-in_default-try_copy-clause-refused : goal.returns-in_default-try_copy-clause-refused
-returns-in_default-try_copy-clause-refused c = memory (goal.at.returns-in_default-try_copy-clause-refused c).After-len-2 c.if-len-ge-MOST_QUEUED.false
+returns-in_default-try_copy-clause-refused c =
+    memory (goal.at.returns-in_default-try_copy-clause-refused c).After-len-2 c.if-len-ge-MOST_QUEUED.false
 
 pub returns-in-Err-clause-refused : goal.returns-in-Err-clause-refused
 returns-in-Err-clause-refused c = memory (goal.at.returns-in-Err-clause-refused c).After-len-2 c.if-len-ge-MOST_QUEUED.false
@@ -93,13 +126,24 @@ module _ (c : goal.After-tell) where
   waits : changes_of c.push_back_reserved.new.self.items ≡ changes_of c.self.inside.waiting.items ++ change_of c.args.edit ∷ []
   waits =
       ap changes_of (c.push_back_reserved.ensures.items ∙ ap (λ (l : List Edit). l ++ c.in-Ok.copy ∷ []) c.try_reserve.ensures.items)
-      ∙ map-append change_of c.self.inside.waiting.items (c.in-Ok.copy ∷ []) ∙ ap (λ (p : Proposal). changes_of c.self.inside.waiting.items ++ change_in p ∷ []) c.in-Ok.ensures
+      ∙ map-append change_of c.self.inside.waiting.items (c.in-Ok.copy ∷ []) ∙
+      ap (λ (p : Proposal). changes_of c.self.inside.waiting.items ++ change_in p ∷ []) c.in-Ok.ensures
 
   abbrev New : DeskState
-  New = record { store = c.self.inside.settled.store; settled = c.self.inside.settled.edits; drawn = changes_of c.self.inside.drawn.items; waiting = changes_of c.push_back_reserved.new.self.items; stopped = c.self.inside.stopped; last = c.self.inside.settled.last }
+  New = record {
+    store = c.self.inside.settled.store;
+    settled = c.self.inside.settled.edits;
+    drawn =
+        changes_of c.self.inside.drawn.items;
+    waiting = changes_of c.push_back_reserved.new.self.items;
+    stopped =
+        c.self.inside.stopped;
+    last = c.self.inside.settled.last;
+  }
 
   sound : IsSound New c.make.new.self c.self.inside.base (changes_of c.self.inside.lag.items)
-  sound = waiting_on _ _ _ _ c.self.invariant (proposal_of c.args.edit) c.make.new.self c.in-Ok-make.ensures.admitted room New refl refl refl waits
+  sound = waiting_on _ _ _ _ c.self.invariant (proposal_of c.args.edit) c.make.new.self c.in-Ok-make.ensures.admitted
+      room New refl refl refl waits
 
 pub invariant_of-self-in-Ok-make : goal.invariant_of-self-in-Ok-make
 invariant_of-self-in-Ok-make c = sound c
@@ -110,9 +154,19 @@ returns-in-Ok-make-clause-accepted c =
     let old = c.self.invariant.head_is in let new = (sound c).head_is in
     rw (← c.self.view_is) (record {
       open_desk = c.if-self.false;
-      admitted = subst (λ (t : State). Admits t p (accepted (head (New c)))) old (subst (λ (t : State). Admits c.self.inside.head p (accepted t)) new c.in-Ok-make.ensures.admitted);
+      admitted = subst (λ (t : State). Admits t p (accepted (head (New c)))) old
+          (subst (λ (t : State). Admits c.self.inside.head p (accepted t)) new c.in-Ok-make.ensures.admitted);
       room = room c;
-      new_is = ap (λ (w : List Change). record { store = c.self.inside.settled.store; settled = c.self.inside.settled.edits; drawn = changes_of c.self.inside.drawn.items; waiting = w; stopped = c.self.inside.stopped; last = c.self.inside.settled.last }) (waits c);
+      new_is = ap (λ (w : List Change). record {
+        store = c.self.inside.settled.store;
+        settled = c.self.inside.settled.edits;
+        drawn =
+            changes_of c.self.inside.drawn.items;
+        waiting = w;
+        stopped = c.self.inside.stopped;
+        last =
+            c.self.inside.settled.last;
+      }) (waits c);
     })
 
 pub returns-in-Ok-make-clause-revision : goal.returns-in-Ok-make-clause-revision

@@ -11,5 +11,6 @@ pub invariant_of-self-2 : goal.invariant_of-self-2
 invariant_of-self-2 c =
     let whole : c.progress-progress.result ≡ Whole = search rules in
     let length_is : c.len.result ≡ length c.self.inside.bytes.items = search rules in
-    let made : c.note.new.calls.items ≡ c.self.inside.calls.items ++ (record { request = Sync; progress = Whole }) ∷ [] = rw (← whole) c.in-Ok-note.ensures.ok in
+    let made : c.note.new.calls.items ≡ c.self.inside.calls.items ++ (record { request = Sync; progress = Whole }) ∷
+    [] = rw (← whole) c.in-Ok-note.ensures.ok in
     rw length_is (keeps_sync _ _ _ _ _ _ c.self.invariant _ _ _ (search rules) made (search rules))

@@ -18,7 +18,8 @@ returns-in_default-new-clause-other c _ =
 pub index_mut-requires : goal.index_mut-requires
 index_mut-requires c =
     let told = rw c.in-Some-new.is at c.in_ok-new.ensures 0 in
-    subst (λ n. c.in-Some.place.index < n) (sym c.args.self.now.lengths.ok.0) (c.in-Some.ensures.place (rw c.deref.ensures.value at told.0)).counted
+    subst (λ n. c.in-Some.place.index < n) (sym c.args.self.now.lengths.ok.0)
+    (c.in-Some.ensures.place (rw c.deref.ensures.value at told.0)).counted
 
 pub returns-clause-put : goal.returns-clause-put
 returns-clause-put c _ =

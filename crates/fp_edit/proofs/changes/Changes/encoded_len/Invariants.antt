@@ -6,4 +6,5 @@ use Rattle.fp_edit.proofs.changes.Changes.encoded_len.Given as goal
 
 -- what has been counted and what is left to count are all
 abbrev pub invariant-loop-change : goal.invariant-loop-change
-invariant-loop-change l = l.len + sum_by part_len (parts_of (map proposed_of (drop l.change-index l.change-items))) ≡ set_len (parts_of l.self)
+invariant-loop-change l = l.len + sum_by part_len (parts_of (map proposed_of (drop l.change-index l.change-items))) ≡
+    set_len (parts_of l.self)

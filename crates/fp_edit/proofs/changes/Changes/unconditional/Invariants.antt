@@ -4,4 +4,5 @@ use Rattle.fp_edit.proofs.changes.Changes.unconditional.Given as goal
 
 -- those that were passed expect nothing
 abbrev pub invariant-loop-change : goal.invariant-loop-change
-invariant-loop-change l = map proposed_of l.change-items ≡ map free (parts_of (take l.change-index l.fn.self)) ++ drop l.change-index l.fn.self
+invariant-loop-change l = map proposed_of l.change-items ≡ map free (parts_of (take l.change-index l.fn.self)) ++
+    drop l.change-index l.fn.self

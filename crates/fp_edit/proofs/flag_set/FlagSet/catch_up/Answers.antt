@@ -17,16 +17,21 @@ same_change e f is = ap change_in is ∙ change-unconditional (change_of e)
 as_before : (c : After-push_front_reserved) → changes_of c.push_front_reserved.new.self.items ≡ changes_of c.loop-edit.ahead.items
 as_before c =
     ap changes_of c.push_front_reserved.ensures.items
-    ∙ ap (λ (x : Change). x ∷ changes_of c.pop_front.new.self.items) (ap change_of c.in-Err.ensures.given_back ∙ same_change c.in-Some.edit c.unconditional.result c.unconditional.ensures)
+    ∙ ap (λ (x : Change). x ∷ changes_of c.pop_front.new.self.items)
+    (ap change_of c.in-Err.ensures.given_back ∙
+    same_change c.in-Some.edit c.unconditional.result c.unconditional.ensures)
     ∙ sym (ap changes_of c.in-Some.ensures.items)
 
 pub loop-edit-preserved : goal.loop-edit-preserved
 loop-edit-preserved c =
     let s = c.loop-edit.self in
     let rest = changes_of c.pop_front.new.self.items in
-    let made : c.make.new.self ≡ next s (change_of c.in-Some.edit) = c.in-Ok.ensures.admitted.1 ∙ ap (next s) (same_change c.in-Some.edit c.unconditional.result c.unconditional.ensures) in
+    let made : c.make.new.self ≡ next s (change_of c.in-Some.edit) = c.in-Ok.ensures.admitted.1 ∙
+    ap (next s) (same_change c.in-Some.edit c.unconditional.result c.unconditional.ensures) in
     let all = subst (λ (xs : List Edit). Follows s (changes_of xs)) c.in-Some.ensures.items c.loop-edit.invariant.1 in (
-      ap (λ (t : State). after_all t rest) made ∙ sym (ap (λ (xs : List Edit). after_all s (changes_of xs)) c.in-Some.ensures.items) ∙ c.loop-edit.invariant.0,
+      ap (λ (t : State). after_all t rest) made ∙
+          sym (ap (λ (xs : List Edit). after_all s (changes_of xs)) c.in-Some.ensures.items) ∙
+          c.loop-edit.invariant.0,
       subst (λ (t : State). Follows t rest) (sym made) all.1,
     )
 

@@ -4,7 +4,8 @@ use Rattle.fp_edit.specs.Log.{after_all}
 use Rattle.fp_edit.proofs.flag_set.FlagSet.catch_up.Given as goal
 
 abbrev pub invariant-loop-edit : goal.invariant-loop-edit
-invariant-loop-edit l = (after_all l.self (changes_of l.ahead.items) ≡ after_all l.initial.self (changes_of l.initial.ahead.items)) × Follows l.self (changes_of l.ahead.items)
+invariant-loop-edit l = (after_all l.self (changes_of l.ahead.items) ≡ after_all l.initial.self
+    (changes_of l.initial.ahead.items)) × Follows l.self (changes_of l.ahead.items)
 
 abbrev pub decreases-loop-edit : goal.decreases-loop-edit
 decreases-loop-edit l = length l.ahead.items

@@ -8,5 +8,6 @@ use Rattle.fp_edit.proofs.flag_set.FlagSet.judge_set.Given as goal
 
 -- what is left to test decides
 abbrev pub invariant-loop-at : goal.invariant-loop-at
-invariant-loop-at l = refusal l.self (joint (map proposed_of l.changes)) ≡ first_failed (keys_from l.self l.at (map proposed_of (drop l.at l.changes))
+invariant-loop-at l = refusal l.self (joint (map proposed_of l.changes)) ≡ first_failed
+    (keys_from l.self l.at (map proposed_of (drop l.at l.changes))
     ++ (has_room l.self (set (parts_of (map proposed_of l.changes))), SetTooLarge) ∷ (has_revision l.self, RevisionsUsed) ∷ [])

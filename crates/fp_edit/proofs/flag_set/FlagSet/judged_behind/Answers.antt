@@ -6,10 +6,18 @@ pub judged_put-requires : goal.judged_put-requires
 judged_put-requires c =
     let k = key_bytes c.in-Put.key in
     let found = c.found_behind in
-    record { found = found_in c.requires.tally k found.result found.ensures; some = some_found c.requires.tally k found.result found.ensures }
+    record {
+      found = found_in c.requires.tally k found.result found.ensures;
+      some =
+          some_found c.requires.tally k found.result found.ensures;
+    }
 
 pub judged_delete-requires : goal.judged_delete-requires
 judged_delete-requires c =
     let k = key_bytes c.in-Delete.key in
     let found = c.found_behind-in-Delete in
-    record { found = found_in c.requires.tally k found.result found.ensures; some = some_found c.requires.tally k found.result found.ensures }
+    record {
+      found = found_in c.requires.tally k found.result found.ensures;
+      some =
+          some_found c.requires.tally k found.result found.ensures;
+    }

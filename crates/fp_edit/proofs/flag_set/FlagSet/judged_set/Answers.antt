@@ -14,7 +14,7 @@ use Rattle.fp_edit.proofs.SetTests.{set-distinct}
 use Rattle.fp_documents.proofs.Sizes.{found_some, found_within}
 use Rattle.fp_edit.proofs.Tallying.{bound_all, can_be, cannot_be, count_all, free_at, goes_on, judged_all, size_all}
 use Rattle.fp_edit.proofs.flag_set.FlagSet.judged_set.Goals as goal
-use Rattle.fp_edit.proofs.flag_set.FlagSet.judged_set.Goals.{After-found_behind-found, After-sums_after-sums, in-Put, in-Delete+else-found-eq0}
+use Rattle.fp_edit.proofs.flag_set.FlagSet.judged_set.Goals.{After-found_behind-found, in-Put, in-Delete+else-found-eq0}
 
 -- the set behind those edits, and a part with what its key takes there
 module _ (c : After-found_behind-found) where
@@ -41,7 +41,9 @@ module _ (c : After-found_behind-found) where
 
   -- no part so far is of that key
   found_still : c.found_behind-found.result ≡ cost_found (part_key One) (fin.get Before (part_key One))
-  found_still = found_is ∙ ap (cost_found (part_key One)) (sym (get-before All c.loop-change.change-index One within is (Here.revision + 1) Here.flags (set-distinct All c.requires.lawful)))
+  found_still = found_is ∙ ap (cost_found (part_key One))
+      (sym (get-before All c.loop-change.change-index One within is (Here.revision + 1) Here.flags
+      (set-distinct All c.requires.lawful)))
 
 pub returns-then-found-eq0 : goal.returns-then-found-eq0
 returns-then-found-eq0 c = λ accepted.
@@ -50,7 +52,8 @@ returns-then-found-eq0 c = λ accepted.
     let ps = All at in
     let gone : is_put (One at) ≡ false = ap (λ (x : code.Change). is_put (proposed_of x).part) c.in-Delete.is in
     let expected = all_expected s 0 (map free ps) (met s (unconditional (set ps)) accepted).0 in
-    cannot_be s c.found_behind-found.result (One at) (found_is at) gone c.if-found-eq0.true (free_at s ps c.loop-change.change-index (One at) (within at) (is at) expected)
+    cannot_be s c.found_behind-found.result (One at) (found_is at) gone c.if-found-eq0.true
+    (free_at s ps c.loop-change.change-index (One at) (within at) (is at) expected)
 
 pub sums_after-sums-requires-clause-found : goal.sums_after-sums-requires-clause-found
 sums_after-sums-requires-clause-found c =
@@ -71,13 +74,17 @@ loop-change-preserved c =
     let u = c.loop-change.invariant in
     let found = c.found_behind-found.result in
     let puts : code.Change → Bool = λ x. is_put (proposed_of x).part in
-    let kind : (c.match-change.is_bound ≡ (c.loop-change.is_bound || puts c.change-item.result)) × (puts c.change-item.result ≡ false → 0 < found) =
+    let kind : (c.match-change.is_bound ≡ (c.loop-change.is_bound || puts c.change-item.result)) ×
+    (puts c.change-item.result ≡ false → 0 < found) =
     elim c.match-change.branch [
       | in-Put w ↦ rw (w.in-Put.is, w.is_bound-is) (or_comm true c.loop-change.is_bound, λ never. absurd cc)
-      | in-Delete+else-found-eq0 w ↦ rw (w.in-Delete.is, w.is_bound-is) (or_comm false c.loop-change.is_bound, λ _. let some = w.if-found-eq0.false in omega (arith, some))
+      | in-Delete+else-found-eq0 w ↦ rw (w.in-Delete.is, w.is_bound-is)
+          (or_comm false c.loop-change.is_bound, λ _. let some = w.if-found-eq0.false in omega (arith, some))
     ] in
     let after = c.sums_after-sums.ensures.after ((Here at).revision + 1) (Before at) u.count_is u.size_is (found_still at) in
-    goes_on (Here at) (All at) c.loop-change.change-index (One at) (within at) (is at) u c.match-change.is_bound c.sums_after-sums.result.count c.sums_after-sums.result.size kind.0 (can_be (Here at) found (One at) (found_is at) kind.1) after.0 after.1 c.sums_after-sums.ensures.grown
+    goes_on (Here at) (All at) c.loop-change.change-index (One at) (within at) (is at) u c.match-change.is_bound
+    c.sums_after-sums.result.count c.sums_after-sums.result.size kind.0
+    (can_be (Here at) found (One at) (found_is at) kind.1) after.0 after.1 c.sums_after-sums.ensures.grown
 
 pub returns : goal.returns
 returns c =
@@ -85,4 +92,6 @@ returns c =
     let ps = parts_in c.args.changes.now in
     let u = c.loop-change.invariant in
     let ended : length ps ≤ c.loop-change.change-index = rw (length-parts_in) c.loop-change-test.false in
-    judged_all s ps u ended c.judged_sums.result (c.judged_sums.ensures.judged s ps c.requires.tally (bound_all s ps u ended) (count_all s ps u ended) (size_all s ps u ended))
+    judged_all s ps u ended c.judged_sums.result
+    (c.judged_sums.ensures.judged s ps c.requires.tally (bound_all s ps u ended) (count_all s ps u ended)
+    (size_all s ps u ended))

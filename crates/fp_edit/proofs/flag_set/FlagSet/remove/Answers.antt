@@ -37,6 +37,8 @@ invariant_of-self c =
     let measured : set.size - c.take-gone.result ≡ size (flags_after s (one (delete k))) = omega arith in (
       c.take-gone.ensures.ordered,
       subst (λ (m : Flags). IsTallied m (s.revision + 1) s.limit (set.size - c.take-gone.result)) (sym c.take-gone.ensures.taken)
-          (subst (λ n. IsTallied (flags_after s (one (delete k))) (s.revision + 1) s.limit n) (sym measured) (kept-after s (one (delete k)) refl set.size c.self.invariant.1 more)),
-      subst (MarksOne true (s.revision + 1)) (sym c.take-gone.ensures.taken) (marks_one-remove true s.revision (s.revision + 1) s.flags c.self.invariant.1.changed (λ _. omega arith) k),
+          (subst (λ n. IsTallied (flags_after s (one (delete k))) (s.revision + 1) s.limit n) (sym measured)
+          (kept-after s (one (delete k)) refl set.size c.self.invariant.1 more)),
+      subst (MarksOne true (s.revision + 1)) (sym c.take-gone.ensures.taken)
+          (marks_one-remove true s.revision (s.revision + 1) s.flags c.self.invariant.1.changed (λ _. omega arith) k),
     )

@@ -22,21 +22,29 @@ found_is c =
     let changes = c.args.changes.now in let i = c.loop-change.change-index in let x = c.change-item.result in
     c.cost_at.ensures
     ∙ ap (λ (k : List ℕ). cost_found k (fin.get c.args.self.now.flags k)) c.key.ensures
-    ∙ ap (cost_found (its_key c)) (sym (get-before (parts_in changes) i (proposed_of x).part (part_within changes i x c.loop-change-test.true c.change-item.is) (part_is changes i x c.loop-change-test.true c.change-item.is)
+    ∙ ap (cost_found (its_key c)) (sym
+    (get-before (parts_in changes) i (proposed_of x).part
+    (part_within changes i x c.loop-change-test.true c.change-item.is)
+    (part_is changes i x c.loop-change-test.true c.change-item.is)
     (c.args.self.now.revision + 1) c.args.self.now.flags (set-distinct (parts_in changes) c.requires)))
 
 pub sums_after-sums-requires-clause-found : goal.sums_after-sums-requires-clause-found
-sums_after-sums-requires-clause-found c = let found = found_is c in let whole = found_within (passed c) (its_key c) in let bytes = c.loop-change.invariant.1 in omega arith
+sums_after-sums-requires-clause-found c = let found = found_is c in
+    let whole = found_within (passed c) (its_key c) in let bytes = c.loop-change.invariant.1 in omega arith
 
 pub sums_after-sums-requires-clause-some : goal.sums_after-sums-requires-clause-some
 sums_after-sums-requires-clause-some c = λ some.
-    let here = found_some (passed c) (its_key c) (subst (λ (n : ℕ). 0 < n) (found_is c) some) in let count = c.loop-change.invariant.0 in omega arith
+    let here = found_some (passed c) (its_key c) (subst (λ (n : ℕ). 0 < n) (found_is c) some) in
+    let count = c.loop-change.invariant.0 in omega arith
 
 pub loop-change-preserved : goal.loop-change-preserved
 loop-change-preserved c =
     let changes = c.args.changes.now in let ps = parts_in changes in let i = c.loop-change.change-index in let x = c.change-item.result in
     let r = c.args.self.now.revision + 1 in let m = c.args.self.now.flags in
-    let more = parts_after-more ps i (proposed_of x).part (part_within changes i x c.loop-change-test.true c.change-item.is) (part_is changes i x c.loop-change-test.true c.change-item.is) r m in
-    let after = c.sums_after-sums.ensures.after r (parts_after r m (take i ps)) c.loop-change.invariant.0 c.loop-change.invariant.1 (found_is (goal.at.loop-change-preserved c).After-cost_at) in
+    let more = parts_after-more ps i (proposed_of x).part
+    (part_within changes i x c.loop-change-test.true c.change-item.is)
+    (part_is changes i x c.loop-change-test.true c.change-item.is) r m in
+    let after = c.sums_after-sums.ensures.after r (parts_after r m (take i ps)) c.loop-change.invariant.0
+    c.loop-change.invariant.1 (found_is (goal.at.loop-change-preserved c).After-cost_at) in
     let grown = c.sums_after-sums.ensures.grown in
     (after.0 ∙ ap fin.len (sym more), after.1 ∙ ap size (sym more), omega arith, omega arith)

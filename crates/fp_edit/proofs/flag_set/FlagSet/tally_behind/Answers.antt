@@ -16,11 +16,14 @@ loop-i-preserved c =
     let next = c.in_ok-now.ensures in (
       one_follows base xs i e c.loop-i-test.true c.index-edits-i.is c.loop-i.invariant.0 next.0,
       subst (λ (t : State). IsTallyOf c.in_ok-now.now t) (sym (one_after base xs i e c.loop-i-test.true c.index-edits-i.is)) next.1,
-      subst (λ (t : State). IsNoted c.note.new.self c.args.self.now t) (sym (one_after base xs i noted c.loop-i-test.true c.index-edits-i-in-loop-i.is))
+      subst (λ (t : State). IsNoted c.note.new.self c.args.self.now t)
+          (sym (one_after base xs i noted c.loop-i-test.true c.index-edits-i-in-loop-i.is))
           (c.note.ensures c.args.self.now (after_all base (changes_of (take i xs))) c.loop-i.invariant.2),
     )
 
 pub returns-in_err-now-clause-refused : goal.returns-in_err-now-clause-refused
 returns-in_err-now-clause-refused c =
     let base = after_all c.args.self.now (changes_of c.args.ahead.now) in
-    rw c.from_residual.ensures (λ all. c.in_err-now.ensures (one_accepted base c.args.edits.now c.loop-i.i c.index-edits-i.result c.loop-i-test.true c.index-edits-i.is all))
+    rw c.from_residual.ensures (λ all. c.in_err-now.ensures
+    (one_accepted base c.args.edits.now c.loop-i.i c.index-edits-i.result c.loop-i-test.true c.index-edits-i.is
+    all))

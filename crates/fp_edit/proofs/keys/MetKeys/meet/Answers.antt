@@ -7,4 +7,6 @@ pub returns-clause-first : goal.returns-clause-first
 returns-clause-first c = rw (← c.self.view_is) (c.in_ok-insert.ensures.added ∙ ap not (found-among c.args.key c.self.inside.keys.keys))
 
 pub returns-clause-met : goal.returns-clause-met
-returns-clause-met c = rw (← c.self.view_is) (λ k. ap (λ ks. is_among k (texts ks)) c.in_ok-insert.ensures.keys ∙ among-inserted k c.args.key c.self.inside.keys.keys)
+returns-clause-met c = rw (← c.self.view_is)
+    (λ k. ap (λ ks. is_among k (texts ks)) c.in_ok-insert.ensures.keys ∙
+    among-inserted k c.args.key c.self.inside.keys.keys)

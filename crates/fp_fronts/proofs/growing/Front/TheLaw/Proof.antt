@@ -15,6 +15,10 @@ use Rattle.fp_fronts.proofs.growing.Front.TheLaw.Statement.{statement}
 
 pub shares : (E : RattleType) (L : Laws E) → statement E L
 shares E L = of_Lends (C.struct E) (C.the_codes E.Denot E.coded (P.the_row E).coded) (C.the_heap E) (C.the_lent E)
-    (λ d p. record { contraction = λ M 𝓤 𝓛 κ. twice 𝓛 E.coded d.name d.log; mono = λ M 𝓤 𝓛 κ' κ. snd∗ 𝓤 (sem 𝓛 (before κ' κ)) (sem 𝓛 (reached E.coded.code d.name d.log)) })
+    (λ d p. record {
+      contraction = λ M 𝓤 𝓛 κ. twice 𝓛 E.coded d.name d.log;
+      mono =
+          λ M 𝓤 𝓛 κ' κ. snd∗ 𝓤 (sem 𝓛 (before κ' κ)) (sem 𝓛 (reached E.coded.code d.name d.log));
+    })
     (copy_shared (P.the_field E) (field_copy (P.the_type E) tt), tt)
     (λ M 𝓤 𝓛 d p. lends_twice 𝓛 (reached E.coded.code d.name d.log) (twice 𝓛 E.coded d.name d.log) (C.the_row E).lives)

@@ -20,4 +20,5 @@ pub shares : (E : RattleType) (L : Laws E) → statement E L
 shares E L = of_Lends (C.struct E) (C.the_codes E.Denot E.coded (P.the_row E).coded) (C.the_heap E) (C.the_lent E)
     (λ d p. one_shr_laws (λ q. whole E.coded.code q d.name d.log))
     (copy_shared (P.the_field E) (field_copy (P.the_type E) tt), tt)
-    (λ M 𝓤 𝓛 d p κ ts inc sp. qed 𝓛 (‵ (fbor κ (whole E.coded.code full_share d.name d.log)) ∷ raw (lfts 𝓛 ts) ∷ []) ∵ updating ! $ bor_fracture ! tt (λ q. whole E.coded.code q d.name d.log) full_share $ now ! $ done !)
+    (λ M 𝓤 𝓛 d p κ ts inc sp. qed 𝓛 (‵ (fbor κ (whole E.coded.code full_share d.name d.log)) ∷ raw (lfts 𝓛 ts) ∷ [])
+    ∵ updating ! $ bor_fracture ! tt (λ q. whole E.coded.code q d.name d.log) full_share $ now ! $ done !)

@@ -11,7 +11,8 @@ pub returns-in-Err-clause-refused : goal.returns-in-Err-clause-refused
 returns-in-Err-clause-refused g c = λ h. unless_wanting (g.D.Disk.bytes c.args.disk) c.in-Err.refused.0 (c.in-Err.ensures.fault h)
 
 pub returns-clause-stands : goal.returns-clause-stands
-returns-clause-stands g c = λ h. subst (λ (s : State). StandsFor (g.D.Disk.bytes c.args.disk) s) (sym c.adopt.ensures.fresh.start) (c.in-Ok.ensures.stands h)
+returns-clause-stands g c = λ h. subst (λ (s : State). StandsFor (g.D.Disk.bytes c.args.disk) s)
+    (sym c.adopt.ensures.fresh.start) (c.in-Ok.ensures.stands h)
 
 pub returns-clause-place : goal.returns-clause-place
 returns-clause-place g c = λ h.
@@ -24,14 +25,16 @@ returns-clause-slots g c = λ h.
     rw (over.place, over.other, over.version, over.generation) (c.in-Ok.ensures.slots h)
 
 pub returns-clause-only : goal.returns-clause-only
-returns-clause-only g c = λ h other stands. stands_one (g.D.Disk.bytes c.args.disk) other _ stands (c.in-Ok.ensures.stands h) ∙ sym c.adopt.ensures.fresh.start
+returns-clause-only g c = λ h other stands. stands_one (g.D.Disk.bytes c.args.disk) other _ stands
+    (c.in-Ok.ensures.stands h) ∙ sym c.adopt.ensures.fresh.start
 
 pub returns-clause-sure : goal.returns-clause-sure
 returns-clause-sure g c = λ h.
     let D = g.D.Disk in
     let disk = ap D.unsynced c.adopt.ensures.over.disk in
     subst (λ (s : State). IsDurable (D.unsynced c.adopt.result.0.disk) s) (sym c.adopt.ensures.fresh.start)
-    (settled_sure (D.unsynced c.adopt.result.0.disk) (D.bytes c.args.disk) _ (disk ∙ c.in-Ok.ensures.all_synced h) (c.in-Ok.ensures.stands h))
+    (settled_sure (D.unsynced c.adopt.result.0.disk) (D.bytes c.args.disk) _ (disk ∙ c.in-Ok.ensures.all_synced h)
+    (c.in-Ok.ensures.stands h))
 
 pub returns-in-Err-clause-same : goal.returns-in-Err-clause-same
 returns-in-Err-clause-same g c = c.in-Err.ensures.opens.same

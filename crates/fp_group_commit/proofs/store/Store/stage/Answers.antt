@@ -19,7 +19,8 @@ use Rattle.fp_group_commit.proofs.BatchSteps as calls
 use Rattle.fp_group_commit.proofs.store.Store.stage.Goals as goal
 
 pub returns-in-Failed-clause-disk : goal.returns-in-Failed-clause-disk
-returns-in-Failed-clause-disk g c = rw (← c.self.view_is) (steps.calls_none g.D.Disk c.self.invariant g.met.D.Disk.only_now c.phase.ensures.outcomes)
+returns-in-Failed-clause-disk g c =
+    rw (← c.self.view_is) (steps.calls_none g.D.Disk c.self.invariant g.met.D.Disk.only_now c.phase.ensures.outcomes)
 
 pub returns-in-Failed-clause-begun : goal.returns-in-Failed-clause-begun
 returns-in-Failed-clause-begun g c = rw (← c.self.view_is) (calls.shut_at_rest g.D.Disk c.self.invariant c.self.view_is c.requires.idle)
@@ -33,7 +34,8 @@ returns-in-Err g c =
       staged = tt;
       goes_on = tt;
       phase = refl;
-      fault = calls.refuses D i D.faults (λ e. c.in_default.not-Failed (c.phase.ensures.phase ∙ e)) c.args.draw c.in-Err.fault c.in-Err.ensures.fault;
+      fault = calls.refuses D i D.faults (λ e. c.in_default.not-Failed (c.phase.ensures.phase ∙ e)) c.args.draw
+          c.in-Err.fault c.in-Err.ensures.fault;
       given_back = refl;
       same_room = record { most = refl; room = refl; compaction = refl; other = refl; may_open = refl };
       begun = calls.shut_at_rest D i c.self.view_is c.requires.idle;
@@ -49,7 +51,11 @@ returns-in_default-make_ready g c =
       staged = tt;
       goes_on = tt;
       phase = refl;
-      fault = (steps.is_well _ (λ e. c.in_default.not-Failed (c.phase.ensures.phase ∙ e)), refl, calls.goes_kept D i c.args.draw c.in-Ok.ensures.goes_on);
+      fault = (
+        steps.is_well _ (λ e. c.in_default.not-Failed (c.phase.ensures.phase ∙ e)),
+        refl,
+        calls.goes_kept D i c.args.draw c.in-Ok.ensures.goes_on,
+      );
       given_back = refl;
       same_room = record { most = refl; room = refl; compaction = refl; other = refl; may_open = refl };
       begun = calls.shut_at_rest D i c.self.view_is c.requires.idle;
@@ -58,27 +64,43 @@ returns-in_default-make_ready g c =
 
 pub stage-requires : goal.stage-requires
 stage-requires g c =
-    let b = calls.readied g.D.Disk c.self.invariant c.self.view_is c.requires.idle (λ e. c.in_default.not-Failed (c.phase.ensures.phase ∙ e)) c.make_ready.new.slots c.make_ready.ensures.same c.ready.new.set (changes_of c.ready.new.ahead.items) c.ready.ensures.same c.ready.ensures.follows in
-    let room = sizes.place_of g.D.Disk.honest g.D.Disk.unsynced c.self.invariant c.args.draw (subst (λ (k : StoreState g.row.D.Denot). HasRoom k c.args.draw) (sym c.self.view_is) c.requires.room) in
+    let b = calls.readied g.D.Disk c.self.invariant c.self.view_is c.requires.idle
+    (λ e. c.in_default.not-Failed (c.phase.ensures.phase ∙ e)) c.make_ready.new.slots c.make_ready.ensures.same
+    c.ready.new.set (changes_of c.ready.new.ahead.items) c.ready.ensures.same c.ready.ensures.follows in
+    let room = sizes.place_of g.D.Disk.honest g.D.Disk.unsynced c.self.invariant c.args.draw
+    (subst (λ (k : StoreState g.row.D.Denot). HasRoom k c.args.draw) (sym c.self.view_is) c.requires.room) in
     let len = ap length c.in-Ok.ensures.spelled ∙ length-encoding_of_batch c.args.draw in
-    record { idle = b.idle; room = subst (λ (n : ℕ). HasRoomFor c.make_ready.new.slots n) (sym len) (steps.room_plan c.self.inside.slots c.make_ready.new.slots b.plan room.room) }
+    record {
+      idle = b.idle;
+      room =
+          subst (λ (n : ℕ). HasRoomFor c.make_ready.new.slots n) (sym len)
+          (steps.room_plan c.self.inside.slots c.make_ready.new.slots b.plan room.room);
+    }
 
 pub invariant_of-self-in_default-stage : goal.invariant_of-self-in_default-stage
 invariant_of-self-in_default-stage g c =
-    let b = calls.readied g.D.Disk c.self.invariant c.self.view_is c.requires.idle (λ e. c.in_default.not-Failed (c.phase.ensures.phase ∙ e)) c.make_ready.new.slots c.make_ready.ensures.same c.ready.new.set (changes_of c.ready.new.ahead.items) c.ready.ensures.same c.ready.ensures.follows in
+    let b = calls.readied g.D.Disk c.self.invariant c.self.view_is c.requires.idle
+    (λ e. c.in_default.not-Failed (c.phase.ensures.phase ∙ e)) c.make_ready.new.slots c.make_ready.ensures.same
+    c.ready.new.set (changes_of c.ready.new.ahead.items) c.ready.ensures.same c.ready.ensures.follows in
     calls.sound_unstaged g.D.Disk b c.stage.new.slots c.stage.ensures.moves c.in_default-stage.ensures.moves.phase.1
 
 pub returns-in_default-stage : goal.returns-in_default-stage
 returns-in_default-stage g c =
-    let b = calls.readied g.D.Disk c.self.invariant c.self.view_is c.requires.idle (λ e. c.in_default.not-Failed (c.phase.ensures.phase ∙ e)) c.make_ready.new.slots c.make_ready.ensures.same c.ready.new.set (changes_of c.ready.new.ahead.items) c.ready.ensures.same c.ready.ensures.follows in
-    let D = g.D.Disk in let s = c.self.inside in let t = c.stage.new.slots in let w = c.stage.ensures in let failed = c.in_default-stage.ensures.moves.phase.1 in
+    let b = calls.readied g.D.Disk c.self.invariant c.self.view_is c.requires.idle
+    (λ e. c.in_default.not-Failed (c.phase.ensures.phase ∙ e)) c.make_ready.new.slots c.make_ready.ensures.same
+    c.ready.new.set (changes_of c.ready.new.ahead.items) c.ready.ensures.same c.ready.ensures.follows in
+    let D = g.D.Disk in let s = c.self.inside in let t = c.stage.new.slots in let w = c.stage.ensures in
+    let failed = c.in_default-stage.ensures.moves.phase.1 in
     rw (← c.self.view_is) (record {
       same = (refl, refl);
       ok = tt;
       staged = tt;
       goes_on = tt;
       phase = refl;
-      fault = (calls.breaks_then D b t w.moves failed (search rules), calls.goes_kept D c.self.invariant c.args.draw c.in-Ok.ensures.goes_on);
+      fault = (
+        calls.breaks_then D b t w.moves failed (search rules),
+        calls.goes_kept D c.self.invariant c.args.draw c.in-Ok.ensures.goes_on,
+      );
       given_back = refl;
       same_room = calls.room_then D b t w.moves s.batch.changes s.phase;
       begun = steps.begun_shut t.journal.phase Idle t.journal.begun refl w.moves.begun (inr failed);
@@ -87,18 +109,30 @@ returns-in_default-stage g c =
 
 pub invariant_of-self-2 : goal.invariant_of-self-2
 invariant_of-self-2 g c =
-    let b = calls.readied g.D.Disk c.self.invariant c.self.view_is c.requires.idle (λ e. c.in_default.not-Failed (c.phase.ensures.phase ∙ e)) c.make_ready.new.slots c.make_ready.ensures.same c.ready.new.set (changes_of c.ready.new.ahead.items) c.ready.ensures.same c.ready.ensures.follows in
-    let room = sizes.place_of g.D.Disk.honest g.D.Disk.unsynced c.self.invariant c.args.draw (subst (λ (k : StoreState g.row.D.Denot). HasRoom k c.args.draw) (sym c.self.view_is) c.requires.room) in
+    let b = calls.readied g.D.Disk c.self.invariant c.self.view_is c.requires.idle
+    (λ e. c.in_default.not-Failed (c.phase.ensures.phase ∙ e)) c.make_ready.new.slots c.make_ready.ensures.same
+    c.ready.new.set (changes_of c.ready.new.ahead.items) c.ready.ensures.same c.ready.ensures.follows in
+    let room = sizes.place_of g.D.Disk.honest g.D.Disk.unsynced c.self.invariant c.args.draw
+    (subst (λ (k : StoreState g.row.D.Denot). HasRoom k c.args.draw) (sym c.self.view_is) c.requires.room) in
     let len = ap length c.in-Ok.ensures.spelled ∙ length-encoding_of_batch c.args.draw in
     let D = g.D.Disk in let mid = c.make_ready.new.slots in let t = c.stage.new.slots in let w = c.stage.ensures in
-    calls.sound_staged D b.sound Staged t (steps.beside_of mid t w.moves.same) w.moves.sealed (steps.kept_on D b.sound t w.moves.kept w.moves.call.honest.1) c.args.draw c.ready.new.set (changes_of c.ready.new.ahead.items) (changes_of c.in-Ok.ready.1.items) refl c.ready.ensures.follows (none_left c.ready.new.ahead.items c.in-Ok.ensures.done) c.in-Ok.ensures.copied
-    (subst (λ (x : State). GoesOn x c.args.draw) (sym c.ready.ensures.same) c.in-Ok.ensures.goes_on) c.in-Ok.ensures.lawful (w.staged ∙ c.in-Ok.ensures.spelled) (ap length w.staged ∙ len) (steps.room_plan c.self.inside.slots mid b.plan room.room)
+    calls.sound_staged D b.sound Staged t (steps.beside_of mid t w.moves.same) w.moves.sealed
+    (steps.kept_on D b.sound t w.moves.kept w.moves.call.honest.1) c.args.draw c.ready.new.set
+    (changes_of c.ready.new.ahead.items) (changes_of c.in-Ok.ready.1.items) refl c.ready.ensures.follows
+    (none_left c.ready.new.ahead.items c.in-Ok.ensures.done) c.in-Ok.ensures.copied
+    (subst (λ (x : State). GoesOn x c.args.draw) (sym c.ready.ensures.same) c.in-Ok.ensures.goes_on)
+    c.in-Ok.ensures.lawful (w.staged ∙ c.in-Ok.ensures.spelled) (ap length w.staged ∙ len)
+    (steps.room_plan c.self.inside.slots mid b.plan room.room)
     (subst (λ (v : ℕ). AllByRecursion (IsAllowed v) c.args.draw.changes) (sym b.plan.3) room.allowed)
-    (λ growing. w.moves.same.9 ∙ c.in-Ok-make_ready.ensures.ready (subst (λ (x : Step). IsGrowing x) w.moves.same.5 growing) ∙ sym (ap with_gate w.staged)) c.in-Ok-stage.ensures.moves.phase.0
+    (λ growing. w.moves.same.9 ∙ c.in-Ok-make_ready.ensures.ready
+    (subst (λ (x : Step). IsGrowing x) w.moves.same.5 growing) ∙ sym (ap with_gate w.staged))
+    c.in-Ok-stage.ensures.moves.phase.0
 
 pub returns : goal.returns
 returns g c =
-    let b = calls.readied g.D.Disk c.self.invariant c.self.view_is c.requires.idle (λ e. c.in_default.not-Failed (c.phase.ensures.phase ∙ e)) c.make_ready.new.slots c.make_ready.ensures.same c.ready.new.set (changes_of c.ready.new.ahead.items) c.ready.ensures.same c.ready.ensures.follows in
+    let b = calls.readied g.D.Disk c.self.invariant c.self.view_is c.requires.idle
+    (λ e. c.in_default.not-Failed (c.phase.ensures.phase ∙ e)) c.make_ready.new.slots c.make_ready.ensures.same
+    c.ready.new.set (changes_of c.ready.new.ahead.items) c.ready.ensures.same c.ready.ensures.follows in
     let D = g.D.Disk in let t = c.stage.new.slots in let w = c.stage.ensures in let done = c.in-Ok-stage.ensures.moves.phase.0 in
     rw (← c.self.view_is) (record {
       same = (refl, refl);

@@ -8,8 +8,10 @@ use Rattle.fp_record.proofs.image.Image.decode.Goals as goal
 
 pub returns-clause-spelled : goal.returns-clause-spelled
 returns-clause-spelled c =
-    is_read (λ image. IsImage image × (c.args.bytes.now ≡ encoding_of_image image)) c.whole_image.result (image_in any_revision c.args.bytes.now) c.whole_image.ensures
+    is_read (λ image. IsImage image × (c.args.bytes.now ≡ encoding_of_image image)) c.whole_image.result
+    (image_in any_revision c.args.bytes.now) c.whole_image.ensures
     (λ image e. let s = image_spelled any_revision c.args.bytes.now image (λ i. omega (arith, c.type_inv.bytes i)) e in (s.0, s.2))
 
 pub returns-clause-found : goal.returns-clause-found
-returns-clause-found c = λ image is e. is_found c.whole_image.result (image_in any_revision c.args.bytes.now) image c.whole_image.ensures (image_found any_revision c.args.bytes.now image is (all_up_to image is.flags) e)
+returns-clause-found c = λ image is e. is_found c.whole_image.result (image_in any_revision c.args.bytes.now) image
+    c.whole_image.ensures (image_found any_revision c.args.bytes.now image is (all_up_to image is.flags) e)

@@ -18,7 +18,9 @@ returns-clause-asks c = λ line kept.
     let same = cut-same line in
     subst (λ (b : Bool). Asked c.asked_by-edit.result b (line_of line)) same.0
     (subst (λ (x : Ask). Asked c.asked_by-edit.result (lines.is_blank (line_up_to_limit line)) x) same.1
-    (subst (λ (l : List ℕ). Asked c.asked_by-edit.result (lines.is_blank l) (line_of l)) (c.deref.ensures.value ∙ c.self.view_is ∙ kept) c.asked_by-edit.ensures))
+    (subst (λ (l : List ℕ). Asked c.asked_by-edit.result (lines.is_blank l) (line_of l))
+    (c.deref.ensures.value ∙ c.self.view_is ∙ kept) c.asked_by-edit.ensures))
 
 pub returns-clause-limited : goal.returns-clause-limited
-returns-clause-limited c = subst (λ (l : List ℕ). line_up_to_limit l ≡ l) c.self.view_is (take_all (LONGEST_LINE + 1) c.self.inside.bytes.items (omega (arith, c.self.invariant)))
+returns-clause-limited c = subst (λ (l : List ℕ). line_up_to_limit l ≡ l) c.self.view_is
+    (take_all (LONGEST_LINE + 1) c.self.inside.bytes.items (omega (arith, c.self.invariant)))

@@ -7,6 +7,7 @@ pub loop-i-preserved : goal.loop-i-preserved
 loop-i-preserved c =
     let inv = c.loop-i.invariant in let a = c.in_ok-add.ensures in record {
       within = search rules;
-      told = told_up_to-more c.args.is_kept c.args.self.now.waiting.items c.loop-i.telling c.add.new.self c.loop-i.i c.index.result.now (reply_of_code c.as_told.result.now) (search rules) c.index.ensures c.as_told.ensures
+      told = told_up_to-more c.args.is_kept c.args.self.now.waiting.items c.loop-i.telling c.add.new.self c.loop-i.i
+          c.index.result.now (reply_of_code c.as_told.result.now) (search rules) c.index.ensures c.as_told.ensures
           a.text a.told inv.told;
     }

@@ -22,8 +22,11 @@ overflow_sub-left-in-steps c =
     let m = meaning root (rule_of_code code) in
     let here : k + 1 ≡ c.steps.left = omega (arith, c.steps-test.true) in
     let within : k < length xs = omega (arith, here, c.steps.invariant.within) in
-    let h : run (env_of code) root (onto (take (k + 1) xs) []) 0 v s ≡ Some m = ap (λ n. run (env_of code) root (onto (take n xs) []) 0 v s) here ∙ c.steps.invariant.gives in
-    turn-within (env_of code) root xs k c.index-step.result.now v s m within c.index-step.ensures c.in_ok-skipped.skipped (found_view c.act.new.at_hand) (stack_view c.act.new.kept) c.in_ok-skipped.ensures.does h
+    let h : run (env_of code) root (onto (take (k + 1) xs) []) 0 v s ≡ Some m =
+    ap (λ n. run (env_of code) root (onto (take n xs) []) 0 v s) here ∙ c.steps.invariant.gives in
+    turn-within (env_of code) root xs k c.index-step.result.now v s m within c.index-step.ensures
+    c.in_ok-skipped.skipped (found_view c.act.new.at_hand) (stack_view c.act.new.kept)
+    c.in_ok-skipped.ensures.does h
 
 pub steps-preserved : goal.steps-preserved
 steps-preserved c =
@@ -36,11 +39,14 @@ steps-preserved c =
     let m = meaning root (rule_of_code code) in
     let here : k + 1 ≡ c.steps.left = omega (arith, c.steps-test.true) in
     let within : k < length xs = omega (arith, here, c.steps.invariant.within) in
-    let h : run (env_of code) root (onto (take (k + 1) xs) []) 0 v s ≡ Some m = ap (λ n. run (env_of code) root (onto (take n xs) []) 0 v s) here ∙ c.steps.invariant.gives in
+    let h : run (env_of code) root (onto (take (k + 1) xs) []) 0 v s ≡ Some m =
+    ap (λ n. run (env_of code) root (onto (take n xs) []) 0 v s) here ∙ c.steps.invariant.gives in
     record {
       within = omega (arith, within);
       room = grind (arith, c.steps.invariant.room, c.in_ok-skipped.ensures.room);
-      gives = turn-left (env_of code) root xs k c.index-step.result.now v s m within c.index-step.ensures c.in_ok-skipped.skipped (found_view c.act.new.at_hand) (stack_view c.act.new.kept) c.in_ok-skipped.ensures.does h;
+      gives = turn-left (env_of code) root xs k c.index-step.result.now v s m within c.index-step.ensures
+          c.in_ok-skipped.skipped (found_view c.act.new.at_hand) (stack_view c.act.new.kept)
+          c.in_ok-skipped.ensures.does h;
     }
 
 pub returns-in_err-skipped-clause-memory : goal.returns-in_err-skipped-clause-memory
@@ -49,4 +55,5 @@ returns-in_err-skipped-clause-memory c =
     let k = c.steps.left - 1 in
     let within : k < length code.steps.items = omega (arith, c.steps.invariant.within, c.steps-test.true) in
     any-err c.from_residual-in_err-skipped.result
-    (asked (needs_memory (rule_of_code code)) c.requires.sound.frugal k c.index-step.result.now within c.index-step.ensures c.in_err-skipped.ensures.memory)
+    (asked (needs_memory (rule_of_code code)) c.requires.sound.frugal k c.index-step.result.now within
+    c.index-step.ensures c.in_err-skipped.ensures.memory)

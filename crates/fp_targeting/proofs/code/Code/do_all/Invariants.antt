@@ -14,7 +14,8 @@ abbrev pub invariant-steps : goal.invariant-steps
 invariant-steps l = record {
   within : l.left ≤ length l.self.steps.items;
   room : l.self.room ≤ kept_room l.kept;
-  gives : run (env_of l.self) (view l.root) (onto (take l.left l.self.steps.items) []) 0 (found_view l.at_hand) (stack_view l.kept) ≡ Some (meaning (view l.root) (rule_of_code l.self));
+  gives : run (env_of l.self) (view l.root) (onto (take l.left l.self.steps.items) []) 0 (found_view l.at_hand)
+      (stack_view l.kept) ≡ Some (meaning (view l.root) (rule_of_code l.self));
 }
 
 abbrev pub decreases-steps : goal.decreases-steps

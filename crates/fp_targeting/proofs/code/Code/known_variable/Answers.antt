@@ -13,5 +13,8 @@ returns-in_ok-path-in-Some-clause-some c = λ o e.
     let ts = c.args.arguments.now in
     let path = c.in-Some.path in
     let same : Variable c.in_ok-path-in-Some.field-0 ≡ o = cc in
-    compiled-text (tree_items ts) path.now (only-text ts c.only-item.result path.now (omega (arith, c.in-len1.len_at_least, c.in-len1.len_below)) c.only-item.is (sym c.in-Some.ensures))
-    (subst (λ x. IsOperand x (apply Var (rule (literal (text path.now)) no_rules)) c.args.self.now c.path.new.self) same (operand-variable c.in_ok-path-in-Some.ensures))
+    compiled-text (tree_items ts) path.now
+    (only-text ts c.only-item.result path.now (omega (arith, c.in-len1.len_at_least, c.in-len1.len_below))
+    c.only-item.is (sym c.in-Some.ensures))
+    (subst (λ x. IsOperand x (apply Var (rule (literal (text path.now)) no_rules)) c.args.self.now c.path.new.self)
+    same (operand-variable c.in_ok-path-in-Some.ensures))

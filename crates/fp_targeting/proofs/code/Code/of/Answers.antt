@@ -15,4 +15,6 @@ returns-clause-some c = λ code e.
     let small = c.shrink.new.self in
     let same : small ≡ code = cc in
     let x = subst (λ done. Compiles done (λ r. Adds 0 r empty full) d) c.if-not-branch.false c.in_ok-compute.ensures in
-    subst (λ k. IsCompiled (λ r. (r ≡ rule_of_code k) × IsSound k) d) same (shrunk-whole d full small c.shrink.ensures.steps c.shrink.ensures.pool c.shrink.ensures.room (compiled-whole d empty full c.new.ensures.items refl c.new-2.ensures.items c.requires.few c.requires.flat x))
+    subst (λ k. IsCompiled (λ r. (r ≡ rule_of_code k) × IsSound k) d) same
+    (shrunk-whole d full small c.shrink.ensures.steps c.shrink.ensures.pool c.shrink.ensures.room
+    (compiled-whole d empty full c.new.ensures.items refl c.new-2.ensures.items c.requires.few c.requires.flat x))

@@ -32,9 +32,11 @@ returns-in_ok-known_variable-in-Object-clause-some c = λ o e.
     let m = c.index-only.result.now in
     let ts = c.arguments.result.now in
     let one : length v.items ≡ 1 = grind (arith, v.ok, c.len.ensures, c.if-len-ne1.false) in
-    let shape : tree_view c.args.json.now ≡ object (member m.0.now (tree_view m.1) no_members) = ap tree_view c.in-Object.is ∙ only-Object v m one c.index-only.ensures in
+    let shape : tree_view c.args.json.now ≡ object (member m.0.now (tree_view m.1) no_members) =
+    ap tree_view c.in-Object.is ∙ only-Object v m one c.index-only.ensures in
     let x = c.in_ok-known_variable-in-Object.ensures in
     let P = λ (r : Rule). IsOperand o r c.args.self.now c.known_variable.new.self in
     subst (IsCompiled P) (sym shape)
-    (operation true m.0.now Var (tree_view m.1) (tree_items ts) P (named-var m.0.now c.if-ne.ensures) c.arguments.ensures.rules c.arguments.ensures.unknown
+    (operation true m.0.now Var (tree_view m.1) (tree_items ts) P (named-var m.0.now c.if-ne.ensures)
+    c.arguments.ensures.rules c.arguments.ensures.unknown
     (applies true Var P ts refl (le-leb (length ts) 2 (omega (arith, x.few o e))) (x.some o e)))

@@ -8,7 +8,8 @@ use Rattle.fp_targeting.proofs.code.Code.place.Goals as goal
 pub returns-in-Some : goal.returns-in-Some
 returns-in-Some c =
     let d = data_of (tree_view c.args.json.now) in
-    stands-placed {a = c.args.self.now} (subst (λ ds. Stands c.in-Some.there d ds) c.as_slice.ensures.value c.in-Some.ensures) c.as_place.ensures
+    stands-placed {a = c.args.self.now}
+    (subst (λ ds. Stands c.in-Some.there d ds) c.as_slice.ensures.value c.in-Some.ensures) c.as_place.ensures
 
 pub returns : goal.returns
 returns c =
@@ -16,5 +17,11 @@ returns c =
     let pool = c.args.self.now.pool in
     let long : c.len.result ≡ length pool.items = grind (arith, pool.ok, c.len.ensures) in
     pooled-placed
-    (record { steps = refl; pool = datum-pushed pool.items c.push.new.self.items c.in_ok-from_tree.field-0 d c.in_ok-push.ensures.items c.in_ok-from_tree.ensures; room = refl })
+    (record {
+      steps = refl;
+      pool =
+          datum-pushed pool.items c.push.new.self.items c.in_ok-from_tree.field-0 d c.in_ok-push.ensures.items
+          c.in_ok-from_tree.ensures;
+      room = refl;
+    })
     (subst (λ n. n < 2 ^ 16 → c.as_place-place.result ≡ n) long c.as_place-place.ensures)

@@ -6,4 +6,5 @@ pub returns : goal.returns
 returns c =
     let r = c.in_ok-table.ensures in
     compiled-pairs (tree_items c.args.pairs.now) c.in-Some.table c.args.self.now c.push.new.self
-    (r.pairs c.in-Some.table c.in-Some.is) (r.known c.in-Some.table c.in-Some.is) (r.total c.in-Some.table c.in-Some.is) c.in_ok-push.ensures
+    (r.pairs c.in-Some.table c.in-Some.is) (r.known c.in-Some.table c.in-Some.is)
+    (r.total c.in-Some.table c.in-Some.is) c.in_ok-push.ensures

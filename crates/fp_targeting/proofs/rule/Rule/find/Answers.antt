@@ -15,7 +15,8 @@ returns-clause-means c =
     let d = c.args.data.now in
     let formed : well_formed r ≡ true = ap well_formed (sym c.self.view_is) ∙ c.self.invariant.formed in
     let made = ap (λ e. meaning e (rule_of_code c.self.inside.code)) c.datum.ensures ∙ ap (meaning d) c.self.view_is in
-    IfOk-weaker c.run.result _ (λ x. Means r d (found_view x)) (λ x e. subst (λ y. Means r d y) (sym (e ∙ made)) (Means-exists d r formed)) c.run.ensures.means
+    IfOk-weaker c.run.result _ (λ x. Means r d (found_view x))
+    (λ x e. subst (λ y. Means r d y) (sym (e ∙ made)) (Means-exists d r formed)) c.run.ensures.means
 
 pub returns-clause-computed : goal.returns-clause-computed
 returns-clause-computed c =

@@ -10,7 +10,9 @@ pub returns-in-Some : goal.returns-in-Some
 returns-in-Some c =
     let d = tree_view c.args.tree.now in
     let x = c.in_ok-code.ensures.some c.in-Some.code c.in-Some.is in
-    verdict-rule d x.rule c.requires.flat (sym (ap is_some c.values_left.ensures) ∙ c.if-is_none.ensures) c.requires.whole x.known x.is_rule ∙ ap Ok x.made.0
+    verdict-rule d x.rule c.requires.flat (sym (ap is_some c.values_left.ensures) ∙ c.if-is_none.ensures)
+    c.requires.whole x.known x.is_rule ∙ ap Ok x.made.0
 
 pub returns-in-None : goal.returns-in-None
-returns-in-None c = refused-none (tree_view c.args.tree.now) c.refusal-in-None.result c.requires.flat (c.in_ok-code.ensures.none c.in-None.is) c.refusal-in-None.ensures
+returns-in-None c = refused-none (tree_view c.args.tree.now) c.refusal-in-None.result c.requires.flat
+    (c.in_ok-code.ensures.none c.in-None.is) c.refusal-in-None.ensures

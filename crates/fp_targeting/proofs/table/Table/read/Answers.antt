@@ -7,7 +7,8 @@ use Rattle.fp_targeting.specs.Compile.{rules_from, rule_of}
 use Rattle.fp_targeting.specs.Split.{within_limit}
 use Rattle.fp_targeting.specs.Table.{pair_written, pair_view, share_rule}
 use Rattle.fp_targeting.specs.declared.table.Share.{Share}
-use Rattle.fp_targeting.proofs.Tables.{total_left, behind, is-pair, no-pair, left-none, left-past, kept, same, weight-turn, known-turn, read-turn, share_rule-Text}
+use Rattle.fp_targeting.proofs.Tables.{total_left, behind, is-pair, no-pair, left-none, left-past, kept, same}
+use Rattle.fp_targeting.proofs.Tables.{weight-turn, known-turn, read-turn, share_rule-Text}
 use Rattle.fp_targeting.proofs.table.Table.read.Goals as goal
 
 pub returns-in_default-clause-none : goal.returns-in_default-clause-none
@@ -30,7 +31,9 @@ returns-in_default-added-clause-none c = λ none rs e.
     let p = pair_view c.in-Some.pair in
     let here = drop-here xs i x (omega arith) c.json-item.is in
     let pair = is-pair (tree_view x) p (sym c.pair_in.ensures ∙ ap (option_map pair_view) c.in-Some.is) in
-    let past : within_limit (Some (sum + unwrap_or p.1 1)) ≡ None = ap (λ w. within_limit (Some (sum + w))) (sym c.unwrap_or.ensures) ∙ sym c.added.ensures ∙ c.in_default-added.is in
+    let past : within_limit (Some (sum + unwrap_or p.1 1)) ≡ None =
+    ap (λ w. within_limit (Some (sum + w))) (sym c.unwrap_or.ensures) ∙ sym c.added.ensures ∙
+    c.in_default-added.is in
     sym (ap (total_left 0) e) ∙ sym c.loop-json.invariant.weight
     ∙ weight-turn sum xs i x p here pair
     ∙ left-past (sum + unwrap_or p.1 1) (rules_from (tree_items (drop (i + 1) xs))) past
@@ -51,7 +54,8 @@ loop-json-preserved c =
     let more : Some c.in-Some-added.more ≡ within_limit (Some (sum + unwrap_or p.1 1)) =
     sym c.in-Some-added.is ∙ c.added.ensures ∙ ap (λ w. within_limit (Some (sum + w))) c.unwrap_or.ensures in record {
       known = known-turn xs i x p here pair ∙ c.loop-json.invariant.known;
-      read = ap (λ ys. behind ys left) {y = done ++ share_rule s ∷ []} (ap (map share_rule) c.in_ok-push.ensures.items ∙ map-append share_rule c.loop-json.shares.items (s ∷ []))
+      read = ap (λ ys. behind ys left) {y = done ++ share_rule s ∷ []}
+          (ap (map share_rule) c.in_ok-push.ensures.items ∙ map-append share_rule c.loop-json.shares.items (s ∷ []))
           ∙ ap (λ r. behind (done ++ r ∷ []) left) (share_rule-Text name p.0 p.1 c.in_ok-from_str.ensures.ok)
           ∙ read-turn done xs i x p here pair
           ∙ c.loop-json.invariant.read;

@@ -11,9 +11,12 @@ loop-event-preserved g c =
     let lt : c.loop-event.event-index < length c.args.events.now = search rules in
     let item : Event = c.event-item.result in
     let front = take c.loop-event.event-index c.args.events.now in
-    let taken : take (c.loop-event.event-index + 1) c.args.events.now ≡ front ++ item ∷ [] = take_more c.args.events.now c.loop-event.event-index item lt ∙ ap (λ (e : Event). front ++ e ∷ []) (sym c.event-item.is) in
+    let taken : take (c.loop-event.event-index + 1) c.args.events.now ≡ front ++ item ∷ [] =
+    take_more c.args.events.now c.loop-event.event-index item lt ∙
+    ap (λ (e : Event). front ++ e ∷ []) (sym c.event-item.is) in
     rw (taken, c.push_reserved.ensures.items) (record {
-      course = courses.course_more g.D.Disk c.args.self.now c.loop-event.self c.turn.new.self front c.loop-event.answers.items item c.turn.result i.course
+      course = courses.course_more g.D.Disk c.args.self.now c.loop-event.self c.turn.new.self front
+          c.loop-event.answers.items item c.turn.result i.course
           w;
       count = omega (arith, count, one);
       room = omega (arith, capacity, same);
