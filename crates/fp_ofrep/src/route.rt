@@ -18,8 +18,9 @@ pub enum Route<'t> {
     Key(&'t str),
 }
 
-/// What a target asks for, if anything stands there.
+/// What a target asks for, before there is anything to reply from.
 pub fn route_of(target: &[u8]) -> Option<Route<'_>>
+    // `None`: no path of the protocol, so that every reply is 404.
     ensures { option_map route_seen result ≡ route_by target.now }
 {
     match behind(b"/ofrep/v1/evaluate/flags", path_of(target)) {

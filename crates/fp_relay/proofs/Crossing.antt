@@ -8,9 +8,8 @@ use Rattle.std.proofs.sync.Condvar.TheSendSync as condvar
 use Rattle.fp_shown.proofs.Crossing.{shown_sent, shown_shared}
 use Rattle.fp_fronts.proofs.growing.Growing.TheSendSync as growing
 use Rattle.fp_loop.proofs.inbox.Loops.TheSendSync as loops
+use Rattle.fp_relay_replies.proofs.Crossing.{origins_sent, origins_shared}
 use Rattle.fp_relay.proofs.numbers.Numbers.TheSendSync as numbers
-use Rattle.fp_relay.specs.contracts.cross_origin.Origins as origins
-use Rattle.fp_relay.specs.contracts.cross_origin.Origins.TheInside as origins_inside
 use Rattle.fp_relay.specs.contracts.following.Showing as showing
 use Rattle.fp_relay.specs.contracts.services.Evaluations as evaluations
 use Rattle.fp_relay.specs.contracts.set.Set as set
@@ -32,12 +31,6 @@ shelf_sent = let T = shelf.the_type in recorded_send _ _ _ T.to_one (struct_send
 
 pub shelf_shared : IsSync shelf.the_row
 shelf_shared = let T = shelf.the_type in recorded_sync _ _ _ T.to_one (struct_sync (shape T) (search (sendable, crosses, waiting_sent) depth 10, (condvar.the_field_sync, tt)))
-
-origins_sent : IsSend origins.the_row
-origins_sent = let T = origins_inside.the_type in view_send _ _ _ _ _ (recorded_send _ _ _ T.to_one (struct_send (shape T) (search (sendable, crosses) depth 10, tt)))
-
-origins_shared : IsSync origins.the_row
-origins_shared = let T = origins_inside.the_type in view_sync _ _ _ _ _ (recorded_sync _ _ _ T.to_one (struct_sync (shape T) (search (sendable, crosses) depth 10, tt)))
 
 pub evaluations_sent : (R : RattleType) → IsSend R → IsSend (evaluations.the_row R)
 evaluations_sent R sr = let T = evaluations.the_type R in

@@ -12,10 +12,18 @@ use Rattle.fp_stream.specs.Decoding.{HasRead, Reader, bytes_taken, snapshots_giv
 use Rattle.fp_stream.specs.Frames.{Snapshot}
 use Rattle.fp_stream.specs.Reading.{Reads}
 use Rattle.fp_relay.specs.Following.{AreShort, Shows, ShowsFront}
-use Rattle.fp_relay.specs.Ends.{Follows, IsLeft, IsSetFault, of_frame}
+use Rattle.fp_relay.specs.Ends.{Follows, IsLeft, IsLost, IsSetFault, of_frame}
 use Rattle.fp_relay.specs.declared.source.SourceEnd.{SourceEnd}
 use Rattle.fp_relay.specs.declared.source.SourceEnd.TheVariants.{Closed, Device, Memory, BadFrame, NoSet}
 use Rattle.fp_relay.proofs.News.{shows-more, shows-none, short-behind, short-of_news}
+
+-- where nothing is lost
+none-lost : (end : SourceEnd) → IsLost end []
+none-lost Closed = refl
+none-lost Device = refl
+none-lost (BadFrame f) = refl
+none-lost NoSet = refl
+none-lost Memory = tt
 
 module _ (reads left : Option (List ℕ)) (last now : Hello) (old new : List Snapshot) (bytes : List ℕ) (frames : List Snapshot) (d : Reader) (h : HasRead Nothing bytes frames d)
     (came : Consumes reads left bytes) (shows : Shows last now old new frames) where
@@ -29,6 +37,7 @@ module _ (reads left : Option (List ℕ)) (last now : Hello) (old new : List Sna
     rest = h.rest;
     fault = h.fault;
     came = subst (λ (t : List ℕ). Consumes reads left t) (sym (append-nil bytes)) came;
+    held = none-lost end;
     read = subst (λ (l : List Snapshot). Reads Nothing bytes l h.rest h.fault) (sym (append-nil frames)) h.reads;
     shows = shows;
     looked_at = none;
@@ -44,6 +53,7 @@ module _ (reads left : Option (List ℕ)) (last now : Hello) (old new : List Sna
     rest = h.rest;
     fault = h.fault;
     came = Consumes-trans reads left now_left bytes [] came step;
+    held = refl;
     read = subst (λ (l : List Snapshot). Reads Nothing bytes l h.rest h.fault) (sym (append-nil frames)) h.reads;
     shows = shows;
     looked_at = refl;
@@ -66,6 +76,7 @@ module _ (reads left : Option (List ℕ)) (last now : Hello) (old new : List Sna
         rest = k.rest;
         fault = k.fault;
         came = subst (λ (t : List ℕ). Consumes reads now_left t) (sym (append-nil (bytes ++ piece))) came_more;
+        held = none-lost end;
         read = k.reads;
         shows = shows;
         looked_at = none;
@@ -83,6 +94,7 @@ module _ (reads left : Option (List ℕ)) (last now : Hello) (old new : List Sna
         rest = h.rest;
         fault = h.fault;
         came = came_more;
+        held = tt;
         read = subst (λ (l : List Snapshot). Reads Nothing bytes l h.rest h.fault) (sym (append-nil frames)) h.reads;
         shows = shows;
         looked_at = tt;
@@ -100,6 +112,7 @@ module _ (reads left : Option (List ℕ)) (last now : Hello) (old new : List Sna
     rest = k.rest;
     fault = k.fault;
     came = subst (λ (t : List ℕ). Consumes reads now_left t) (sym (append-nil (bytes ++ piece))) (Consumes-trans reads left now_left bytes piece came step);
+    held = none-lost end;
     read = subst (λ (l : List Snapshot). Reads Nothing (bytes ++ piece) l k.rest k.fault) (ap (λ (l : List Snapshot). frames ++ l) (sym f.parts) ∙ sym (append_assoc frames f.front f.behind)) k.reads;
     shows = shows-more last now then_last old new then_new frames f.front shows f.shows;
     looked_at = by_end end set;
@@ -134,6 +147,7 @@ followed-not reads last seen end none = record {
   rest = [];
   fault = None;
   came = Consumes-nil reads;
+  held = none-lost end;
   read = record { whole = refl; news = tt; stops = inl (omega arith) };
   shows = shows-none last seen;
   looked_at = none;

@@ -52,6 +52,14 @@ IsLeft (BadFrame f) behind = behind ≡ []
 IsLeft Memory behind = Unit {0}
 IsLeft NoSet behind = Unit {0}
 
+-- no byte that came is left out, but where memory was wanting to look at it
+abbrev pub IsLost : SourceEnd → List ℕ → Type 0
+IsLost Closed lost = lost ≡ []
+IsLost Device lost = lost ≡ []
+IsLost (BadFrame f) lost = lost ≡ []
+IsLost NoSet lost = lost ≡ []
+IsLost Memory lost = Unit {0}
+
 -- A source gave these bytes, and no fault is read over. Of the frames in them, in turn, those that are
 -- news were shown
 pub record Follows (reads left : Option (List ℕ)) (last now : Hello) (old new : List Snapshot)
@@ -62,7 +70,13 @@ pub record Follows (reads left : Option (List ℕ)) (last now : Hello) (old new 
   pub behind : List Snapshot
   pub rest : List ℕ
   pub fault : Option FrameFault
+  -- What was taken of the source are these bytes, and then those that were lost.
   pub came : Consumes reads left (bytes ++ lost)
+  -- None is lost, but at `Memory`.
+  pub held : IsLost end lost
+  -- The frames that the bytes hold, in order, as they are read by the format.
   pub read : Reads Nothing bytes (frames ++ behind) rest fault
+  -- The sets of the first of them were shown, each above what was shown last, and no other.
   pub shows : Shows last now old new frames
+  -- So were all, but behind one that shows no set, or at `Memory`.
   pub looked_at : IsLeft end behind

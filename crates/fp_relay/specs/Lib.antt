@@ -1,9 +1,3 @@
 pub mod Backoff
-pub mod CrossOrigin
-pub mod Asking
-pub mod Answers
-pub mod Kept
 pub mod Following
 pub mod Ends
-pub mod Metrics
-pub mod Status

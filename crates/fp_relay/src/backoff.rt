@@ -6,10 +6,12 @@ ghost use Rattle.fp_relay.specs.Backoff.{base};
 
 use std::time::Duration;
 
-/// How long to wait before a source is tried again that failed so often before: 0.1 seconds doubled
-/// that often and 5 at most, or less by up to a half, as the random number says.
+/// How long to wait before a source is tried again that failed so often before. The base is 0.1
+/// seconds, doubled for each failure, and 5 seconds at most.
 pub fn delay(failures: u32, random: u64) -> Duration
+    // At least half of the base.
     ensures least { base failures ≤ 2 * as_nanos result }
+    // At most the base.
     ensures most { as_nanos result ≤ base failures }
 {
     let whole = base_of(failures);

@@ -1,4 +1,4 @@
-//! The thread that follows the source, for as long as the program runs.
+//! The thread that follows the source, until the relay ends.
 
 ghost use Rattle.std.specs.Prelude.{[], ◌∷◌};
 
@@ -10,20 +10,18 @@ use crate::probing::probe_peer;
 use crate::set::Set;
 use crate::shelf::Shelf;
 use crate::source::{Audience, SourceEnd, follow};
+use crate::uplink::Uplink;
 use fp_fronts::{Growing, Lists};
 use fp_loop::{Loops, News};
 use fp_shown::Shown;
-use fp_stream::Hello;
+use fp_stream::{HEAD, Hello};
 use fp_streams::FailureCounted;
 use log::Log;
 use std::alloc::{AllocError, Global};
-use std::net::{SocketAddrV4, TcpStream};
+use std::io;
+use std::net::SocketAddrV4;
 use std::sync::{Arc, Wait};
 use std::time::{Clock, Duration};
-use std::{io, thread};
-
-// How long the head of a frame is.
-const HEAD: u64 = 16;
 
 /// Where what is new goes: to the loops, to what an operator reads, and to who keeps it.
 #[derive(Drop)]
@@ -72,7 +70,7 @@ impl<R: Wait + Clock + Log + Drop> Audience for Showing<R> {
     }
 
     fn show(&mut self, shown: Shown) -> Result<(), AllocError> {
-        let bytes = HEAD + shown.document().len() as u64;
+        let bytes = (HEAD + shown.document().len()) as u64;
         let set = Arc::new(self.alloc, Set::of(shown))?;
         let kept = Arc::try_clone(&set)?;
         self.show_set(&set)?;
@@ -85,20 +83,32 @@ impl<R: Wait + Clock + Log + Drop> Audience for Showing<R> {
     }
 }
 
-/// Follows the source at this address, and tries again whenever it is away.
-pub fn follow_source<R: Host>(rt: &R, address: SocketAddrV4, last: Hello, showing: Showing<R>) {
+/// Follows the source at this address, and tries again whenever it is away, until the uplink is
+/// ended.
+pub fn follow_source<R: Host>(
+    rt: &R,
+    address: SocketAddrV4,
+    uplink: &Uplink,
+    last: Hello,
+    showing: Showing<R>,
+) {
     let mut showing = showing;
     let mut last = last;
     let mut failures = 0u32;
     for _ in rt.forever() {
         showing.has_heard = false;
-        let ended = attend_source(rt, address, &mut last, &mut showing);
+        let ended = attend_source(rt, address, uplink, &mut last, &mut showing);
+        if uplink.is_ended(rt) {
+            return;
+        }
         if is_well(&ended) && showing.has_heard {
             failures = 0;
         }
         let wait = delay(failures, random(rt));
         tell_end(rt, address, &ended, wait);
-        thread::sleep(rt, wait);
+        if uplink.is_ended_within(rt, wait) {
+            return;
+        }
         failures = failures.saturating_add(1);
     }
 }
@@ -112,18 +122,20 @@ fn is_well(ended: &io::Result<SourceEnd>) -> bool {
 fn attend_source<R: Host>(
     rt: &R,
     address: SocketAddrV4,
+    uplink: &Uplink,
     last: &mut Hello,
     showing: &mut Showing<R>,
 ) -> io::Result<SourceEnd> {
-    let stream = TcpStream::connect(rt, address)?;
-    probe_peer(&stream);
     let numbers = Arc::try_clone(&showing.numbers)?;
+    let stream = uplink.connect(rt, address)?;
+    probe_peer(&stream);
     numbers.connect(rt, true);
     tell(rt, &Event::SourceReached { address });
     let mut service = FailureCounted::new(&stream);
     let mut r = FailureCounted::new(&stream);
     let end = follow(showing.alloc, &mut service, &mut r, last, showing);
     numbers.connect(rt, false);
+    uplink.let_go(rt);
     Ok(end)
 }
 

@@ -2,15 +2,9 @@
 #![tactic(auto)]
 
 mod backoff;
-mod cross_origin;
-mod evaluating;
 mod events;
 mod following;
 mod host;
-mod keeping;
-mod kept;
-mod kept_files;
-mod metrics;
 mod numbers;
 mod ports;
 mod probing;
@@ -20,18 +14,14 @@ mod services;
 mod set;
 mod shelf;
 mod source;
-mod spelling;
-mod status;
 mod threads;
+mod uplink;
 mod words;
 
 pub use backoff::delay;
-pub use cross_origin::Origins;
-pub use evaluating::respond;
+pub use fp_kept::{KeptFiles, KeptParts, SystemFiles};
+pub use fp_relay_replies::Origins;
 pub use host::Host;
-pub use kept::{KeptParts, decode, parts_of};
-pub use kept_files::{KeptFiles, SystemFiles};
 pub use running::{RelayFault, relay};
 pub use source::{Audience, SourceEnd, follow};
-pub use status::{Answered, Report, answer_status};
 pub use words::{Options, WordsFault, options_of};

@@ -1,6 +1,6 @@
 //! The numbers of a running relay, which its threads count together.
 
-use crate::status::{Answered, Report};
+use fp_relay_replies::{Answered, Report};
 use std::sync::atomic::{AtomicBool, AtomicU64, Ordering};
 use std::time::Clock;
 

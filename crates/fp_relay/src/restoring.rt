@@ -3,9 +3,8 @@
 use crate::events::{Event, tell, tell_failure};
 use crate::following::Showing;
 use crate::host::Host;
-use crate::keeping::KeptFile;
-use crate::kept_files::KeptFiles;
 use crate::set::Set;
+use fp_kept::{KeptFile, KeptFiles};
 use fp_shown::Shown;
 use fp_stream::{Frame, Hello};
 use std::io;

@@ -1,10 +1,10 @@
 //! A relay over sockets, from its start to its end.
 
 use crate::host::Host;
-use crate::kept_files::KeptFiles;
 use crate::ports::Ports;
 use crate::threads::Relaying;
 use crate::words::Options;
+use fp_kept::KeptFiles;
 use fp_streams::{FailureCounted, StreamFault};
 use std::alloc::AllocError;
 use std::io::{ErrorKind, Read, Write};
@@ -52,7 +52,8 @@ impl From<StreamFault> for RelayFault {
     }
 }
 
-/// Relays what the source shows, as the options say, until the input ends.
+/// Relays what the source shows, as the options say, until the input ends: first it says where its
+/// ports are. Its threads end before it returns, but one that still connects to the source.
 pub fn relay<R, K, I, O>(
     rt: &R,
     files: K,

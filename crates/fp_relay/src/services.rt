@@ -2,16 +2,14 @@
 
 ghost use Rattle.std.specs.Prelude.{◌≡◌, ◌<◌, ◌^◌, ℕ, Some, option_map};
 ghost use Rattle.std.specs.Arc.{arc_value};
-ghost use Rattle.fp_relay.specs.Answers.{Responds};
-ghost use Rattle.fp_relay.specs.Asking.{asked_by};
+ghost use Rattle.fp_relay_replies.specs.Answers.{Responds};
+ghost use Rattle.fp_relay_replies.specs.Asking.{asked_by};
 
-use crate::cross_origin::Origins;
-use crate::evaluating::respond;
 use crate::numbers::Numbers;
 use crate::set::Set;
-use crate::status::answer_status;
 use bytes::Bytes;
 use fp_loop::{Counts, Informed};
+use fp_relay_replies::{Origins, answer_status, respond};
 use http::Request;
 use http_server::{Response, Service};
 use std::alloc::{AllocError, Global};

@@ -2,10 +2,8 @@
 
 use crate::events::{Event, tell_failure};
 use crate::host::Host;
-use crate::keeping::KeptFile;
-use crate::kept::parts_of;
-use crate::kept_files::KeptFiles;
 use crate::set::Set;
+use fp_kept::{KeptFile, KeptFiles, parts_of};
 use fp_loop::News;
 use std::alloc::Global;
 use std::sync::{Arc, Condvar, CondvarTimeouts, Mutex, Wait};

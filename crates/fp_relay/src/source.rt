@@ -26,12 +26,16 @@ pub trait Audience {
     /// Notes that a frame of this revision came, where this was shown last. One that isn't newer is
     /// dropped.
     fn note(&mut self, revision: u64, last: Hello)
+        // What was shown stays.
         ensures { seen self.new ≡ seen self.old };
 
-    /// Shows a set.
+    /// Shows a set, which is newer than what was shown last. `Err`: out of memory.
     fn show(&mut self, shown: Shown) -> Result<(), AllocError>
+        // A frame can carry the document.
         requires { length shown.document ≤ longest_body }
+        // `Ok`: it was shown behind what was.
         ensures shown { OnOk result (seen self.new ≡ seen self.old ++ shown ∷ []) }
+        // `Err`: what was shown stays.
         ensures unchanged { OnErr result (seen self.new ≡ seen self.old) };
 }
 
@@ -103,8 +107,9 @@ impl From<AllocError> for SourceEnd {
     }
 }
 
-/// Says hello with nothing, and shows each set that is newer than `last`, which is what was shown
-/// last, as soon as its frame is whole, until the connection ends. Answers why it ended.
+/// Follows one connection to the source, until it ends: says hello with nothing, and shows the
+/// audience each set that is newer than what was shown last, as soon as its frame is whole. Answers
+/// why it ended; call it again with the same `last` over the next connection.
 pub fn follow<S: Write, R: Read, A: Audience>(
     alloc: Global,
     service: &mut FailureCounted<S>,
@@ -112,6 +117,10 @@ pub fn follow<S: Write, R: Read, A: Audience>(
     last: &mut Hello,
     audience: &mut A,
 ) -> SourceEnd
+    // However it ended: what the audience was shown are the sets of the first frames that the bytes
+    // which came hold, in their order, each above what was shown last and above each that was shown
+    // since, so never an equal or a lower revision; all of them, but behind a frame that shows no
+    // set, or at `Memory`.
     ensures { Follows (R.remaining r.old.inner) (R.remaining r.new.inner) last.old last.new
         (A.seen audience.old) (A.seen audience.new) result }
 {

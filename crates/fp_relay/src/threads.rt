@@ -1,24 +1,25 @@
 //! The threads of a relay: its loops, who lets connections in, who follows the source, who keeps.
 
-use crate::cross_origin::Origins;
 use crate::following::{Showing, follow_source};
 use crate::host::Host;
-use crate::keeping::KeptFile;
-use crate::kept_files::KeptFiles;
 use crate::numbers::Numbers;
 use crate::ports::{Port, Ports};
 use crate::restoring::restored;
 use crate::services::{Evaluations, StatusPages};
 use crate::set::Set;
 use crate::shelf::Shelf;
+use crate::uplink::Uplink;
 use crate::words::Options;
 use fp_fronts::Growing;
+use fp_kept::{KeptFile, KeptFiles};
 use fp_loop::{Counts, Door, Informed, Limits, Listening, Loop, Loops, Role};
+use fp_relay_replies::Origins;
 use fp_stream::Hello;
 use std::alloc::Global;
 use std::net::SocketAddrV4;
 use std::sync::Arc;
 use std::thread::JoinHandle;
+use std::time::Duration;
 use std::{io, thread};
 
 // The most loops, each of which has a thread.
@@ -29,6 +30,9 @@ const MOST_SUBSCRIBERS: u64 = 4_096;
 
 // The most connections of operators at once.
 const MOST_OPERATORS: u64 = 64;
+
+// How many seconds a connect to the source is waited for at the end.
+const LAST_CONNECT: u64 = 5;
 
 // How long a connection may keep a loop waiting, in milliseconds.
 const LIMITS: Limits = Limits {
@@ -48,7 +52,10 @@ pub struct Relaying {
     // Of connections of operators, which nobody asks for.
     status_counts: Arc<Counts, Global>,
     shelf: Arc<Shelf, Global>,
-    // Those that end once they are told to.
+    uplink: Arc<Uplink, Global>,
+    // Who follows the source.
+    following: Option<JoinHandle<()>>,
+    // Those that end at once where they are told to.
     threads: Vec<JoinHandle<()>>,
 }
 
@@ -68,6 +75,8 @@ impl Relaying {
             counts: Arc::new(alloc, Counts::new())?,
             status_counts: Arc::new(alloc, Counts::new())?,
             shelf: Arc::new(alloc, Shelf::new())?,
+            uplink: Arc::new(alloc, Uplink::new())?,
+            following: None,
             threads: Vec::new(alloc),
         };
         relaying.begin_loops(rt, Arc::new(alloc, options.origins)?)?;
@@ -77,11 +86,13 @@ impl Relaying {
         Ok(relaying)
     }
 
-    /// Ends them.
+    /// Ends them, and waits until they have. What was shown is kept.
     pub fn end<R: Host>(self, rt: &R, ports: &Ports) {
         ports.close(rt);
         self.loops.stop(rt);
         self.status.stop(rt);
+        let can_join = self.uplink.end(rt, Duration::from_secs(LAST_CONNECT));
+        join_if(rt, self.following, can_join);
         self.shelf.close(rt);
         for thread in self.threads {
             thread.join(rt);
@@ -160,9 +171,9 @@ impl Relaying {
             self.begin_keeping(rt, files, file)?;
         }
         let own = *rt;
-        let follow = move || follow_source(&own, source, last, showing);
-        // It waits for the source when the program ends, which cuts it off.
-        let _following = thread::spawn(rt, follow)?;
+        let uplink = Arc::try_clone(&self.uplink)?;
+        let follow = move || follow_source(&own, source, &uplink, last, showing);
+        self.following = Some(thread::spawn(rt, follow)?);
         Ok(())
     }
 
@@ -208,5 +219,15 @@ impl Relaying {
 
     fn attend<R: Host>(&mut self, rt: &R, port: &Port, door: Door<Set>) -> io::Result<()> {
         Ok(self.threads.push(Listening::start(port, rt, door)?)?)
+    }
+}
+
+// Joins a thread that can be; the end of the program cuts off any other.
+fn join_if<R: Host>(rt: &R, thread: Option<JoinHandle<()>>, can_join: bool) {
+    if !can_join {
+        return;
+    }
+    if let Some(thread) = thread {
+        thread.join(rt);
     }
 }

@@ -1,8 +1,8 @@
 //! What the program's words ask for.
 
-use crate::cross_origin::Origins;
 use clap::error::ErrorKind;
 use clap::{Arg, ArgAction, ArgMatches, Command, Error, value_parser};
+use fp_relay_replies::Origins;
 use std::alloc::{AllocError, Global};
 use std::fmt;
 use std::net::SocketAddrV4;
@@ -88,7 +88,8 @@ fn first_part(alloc: Global, text: &str) -> Result<String, AllocError> {
     Ok(part)
 }
 
-/// What the words ask for, of which the first is the program's name.
+/// What the words of a command line ask for, of which the first is the program's name, so that
+/// `relay` can do it. `Err`: the help that they ask for, or what is wrong with them.
 pub fn options_of<'w>(alloc: Global, words: &'w [&'w str]) -> Result<Options<'w>, WordsFault<'w>> {
     let matches = match command(alloc)?.try_get_matches_from(words) {
         Ok(matches) => matches,

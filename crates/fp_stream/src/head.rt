@@ -12,8 +12,8 @@ use crate::hello::Hello;
 /// The longest body of a frame.
 pub const MOST_BODY: usize = 134_217_728;
 
-/// How long a head is.
-pub(crate) const HEAD: usize = 16;
+/// How long the head of a frame is.
+pub const HEAD: usize = 16;
 
 // Where its revision begins, behind `SNP1`, and the length of its body behind that.
 const REVISION_AT: usize = 4;
@@ -72,8 +72,9 @@ fn size_in(bytes: &[u8]) -> u32
     u32::from_be_bytes(size)
 }
 
-// The bytes of a head.
-pub(crate) fn head_bytes(revision: u64, size: u32) -> [u8; HEAD]
+/// The head of a frame, for who sends or keeps it apart from the document that stands behind it.
+pub fn head_bytes(revision: u64, size: u32) -> [u8; HEAD]
+    // The bytes in front of a document of this revision and this length.
     ensures { result ≡ head revision size }
 {
     let r = revision.to_be_bytes();

@@ -13,7 +13,7 @@ mod watch;
 pub use decoder::Decoder;
 pub use fault::FrameFault;
 pub use frame::{Frame, write_frame};
-pub use head::MOST_BODY;
+pub use head::{HEAD, MOST_BODY, head_bytes};
 pub use hello::{Hello, HelloFault, read_hello, write_hello};
 pub use laws::{no_other_frames, one_reading, what_is_written_is_read};
 pub use watch::{WatchFault, watch_loop};

@@ -1,7 +1,7 @@
 use Rattle.std.proofs.Crossing.{Arc-send}
 use Rattle.fp_relay.proofs.Crossing.{shelf_sent, shelf_shared}
 use Rattle.fp_relay.proofs.Spawning.{spawned, ◌and◌, nothing}
-use Rattle.fp_relay.proofs.keeping.KeptFile.TheSendSync as kept_file
+use Rattle.fp_kept.proofs.keeping.KeptFile.TheSendSync as kept_file
 use Rattle.fp_relay.proofs.threads.Relaying.begin_keeping.Goals as goal
 
 pub spawn-begun-requires-send-F : goal.spawn-begun-requires-send-F

@@ -1,0 +1,2 @@
+pub mod OneFrame
+pub mod Digests

@@ -1,0 +1,75 @@
+//! The calls of the system by which a frame is kept.
+
+use crate::kept::KeptParts;
+use std::alloc::Global;
+use std::fs::{File, OpenFile, OpenOptions};
+use std::io;
+use std::io::{ErrorKind, Read, Write};
+use std::rt::Files;
+
+// The longest file that is read: a frame of the longest body, and its digest.
+const LONGEST: u64 = 134_217_728 + 48;
+
+/// The calls by which a frame is kept: those of the system are `SystemFiles`.
+pub trait KeptFiles: Drop {
+    /// All bytes of a file. A file that is longer than any kept frame may be refused.
+    fn read(&self, alloc: Global, path: &str) -> io::Result<Vec<u8>>;
+
+    /// Makes a file of these parts, in place of one that there may be, and syncs it.
+    fn write(&self, path: &str, parts: &KeptParts<'_>) -> io::Result<()>;
+
+    /// Gives a file the name of another, whose place it takes.
+    fn rename(&self, from: &str, to: &str) -> io::Result<()>;
+
+    /// Syncs the names in a folder, where that can be asked.
+    fn sync_folder(&self, path: &str) -> io::Result<()>;
+}
+
+/// The files of the system.
+#[derive(Drop)]
+pub struct SystemFiles<R: Drop> {
+    rt: R,
+}
+
+impl<R: Files<File = File> + Drop> SystemFiles<R> {
+    /// Those of a runtime; it reads no file that is longer than a kept frame can be.
+    pub fn of(rt: R) -> SystemFiles<R> {
+        SystemFiles { rt }
+    }
+}
+
+impl<R: Files<File = File> + Drop> KeptFiles for SystemFiles<R> {
+    fn read(&self, alloc: Global, path: &str) -> io::Result<Vec<u8>> {
+        let about = self.rt.metadata(path)?;
+        if !about.is_file() || about.len() > LONGEST {
+            return Err(io::Error::from(ErrorKind::InvalidInput));
+        }
+        let mut file = File::open(&self.rt, path)?;
+        let mut bytes = Vec::new(alloc);
+        file.read_to_end(&mut bytes)?;
+        Ok(bytes)
+    }
+
+    fn write(&self, path: &str, parts: &KeptParts<'_>) -> io::Result<()> {
+        let mut file = OpenOptions::new()
+            .write(true)
+            .create(true)
+            .truncate(true)
+            .open(&self.rt, path)?;
+        file.write_all(&parts.head)?;
+        file.write_all(parts.document)?;
+        file.write_all(&parts.digest)?;
+        file.sync_all()
+    }
+
+    fn rename(&self, from: &str, to: &str) -> io::Result<()> {
+        self.rt.rename(from, to)
+    }
+
+    fn sync_folder(&self, path: &str) -> io::Result<()> {
+        match File::open(&self.rt, path) {
+            Ok(folder) => folder.sync_all(),
+            Err(_) => Ok(()),
+        }
+    }
+}

@@ -1,0 +1,10 @@
+//! The last frame, kept over restarts: as bytes with their digest, and in a file.
+#![tactic(auto)]
+
+mod keeping;
+mod kept;
+mod kept_files;
+
+pub use keeping::KeptFile;
+pub use kept::{KeptParts, decode, parts_of};
+pub use kept_files::{KeptFiles, SystemFiles};

@@ -1,0 +1,49 @@
+-- What pages of other origins are allowed.
+use Rattle.std.specs.Prelude.{ℕ, List, [], ◌∷◌, ◌++◌, ◌||◌, Bool, false, Option, Some, None, codes}
+use Rattle.std.specs.Prelude.{bytes_eq, if◌then◌else◌}
+use Rattle.http1.specs.Fields.{Header}
+use Rattle.fp_relay_replies.specs.declared.cross_origin.Allowance.{Allowance}
+use Rattle.fp_relay_replies.specs.declared.cross_origin.Allowance.TheVariants.{Every, Only}
+
+-- what is allowed to a page: what is to every one, or what is to those of its origin
+pub data Allowed : Type 0 where
+  every : Allowed
+  only : List ℕ → Allowed
+
+abbrev pub allowance_seen : Allowance → Allowed
+allowance_seen Every = every
+allowance_seen (Only origin) = only origin.now
+
+-- a text is among these
+abbrev pub lists : List (List ℕ) → List ℕ → Bool
+lists [] text = false
+lists (listed ∷ more) text = bytes_eq listed text || lists more text
+
+-- a star among the origins stands for every one
+abbrev pub allowed : List (List ℕ) → Option (List ℕ) → Option Allowed
+allowed origins None = None
+allowed origins (Some origin) = if lists origins (codes "*") then Some every
+    else (if lists origins origin then Some (only origin) else None)
+
+-- fields, and one more
+abbrev pub and_one : List Header → List ℕ → List ℕ → List Header
+and_one fields name value = fields ++ (name, value) ∷ []
+
+abbrev pub and_exposing : List Header → List Header
+and_exposing fields =
+    and_one fields (codes "access-control-expose-headers") (codes "etag, flag-revision")
+
+-- fields, and those that tell a page what is allowed to it
+abbrev pub and_allowing : List Header → Option Allowed → List Header
+and_allowing fields None = fields
+and_allowing fields (Some every) =
+    and_exposing (and_one fields (codes "access-control-allow-origin") (codes "*"))
+and_allowing fields (Some (only origin)) = and_exposing (and_one
+    (and_one fields (codes "access-control-allow-origin") origin) (codes "vary") (codes "origin"))
+
+-- fields, and those that tell it what it may ask
+abbrev pub and_leave : List Header → List Header
+and_leave fields = and_one (and_one (and_one fields
+    (codes "access-control-allow-methods") (codes "POST"))
+    (codes "access-control-allow-headers") (codes "content-type, if-none-match, authorization"))
+    (codes "access-control-max-age") (codes "86400")

@@ -1,0 +1,5 @@
+pub mod CrossOrigin
+pub mod Asking
+pub mod Answers
+pub mod Metrics
+pub mod Status
