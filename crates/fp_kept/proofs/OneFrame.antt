@@ -9,10 +9,13 @@ use Rattle.fp_kept.specs.Kept.{IsCarried, frame_of}
 
 -- what is said of what was written
 abbrev pub IsReadBack : Type 0
-IsReadBack = (snapshots given : List Snapshot) (now : Reader) → AreNews Nothing snapshots → HasRead Nothing (stream_of snapshots) given now → given ≡ snapshots
+IsReadBack = (snapshots given : List Snapshot) (now : Reader) → AreNews Nothing snapshots →
+    HasRead Nothing (stream_of snapshots) given now → given ≡ snapshots
 
 -- bytes that are a frame give it alone
-pub given : IsReadBack → (text : List ℕ) (frames : List Frame) (now : Reader) → HasRead Nothing text (snapshots_of frames) now → (s : Snapshot) → IsCarried s → text ≡ frame_of s → snapshots_of frames ≡ s ∷ []
+pub given : IsReadBack → (text : List ℕ) (frames : List Frame) (now : Reader) →
+    HasRead Nothing text (snapshots_of frames) now → (s : Snapshot) → IsCarried s → text ≡ frame_of s →
+    snapshots_of frames ≡ s ∷ []
 given law text frames now h s lawful is =
     law (s ∷ []) (snapshots_of frames) now (lawful, tt)
     (subst (λ (t : List ℕ). HasRead Nothing t (snapshots_of frames) now) (is ∙ sym (append-nil (frame_of s))) h)

@@ -8,5 +8,6 @@ use Rattle.fp_plane.specs.Answers.{Answer, reply, IsSaid, only_refuses, answer_t
 pub said-whole : (a : Answer) (before held : Option (List ℕ)) → AppendsLine before held (answer_text a) → IsSaid a before held
 said-whole a before held line = record { shown = a; like = inl refl; line = line }
 
-pub said-wanting : (r : flags.Reply) (before held : Option (List ℕ)) → only_refuses r ≡ true → AppendsLine before held (answer_text (reply flags.out_of_memory)) → IsSaid (reply r) before held
+pub said-wanting : (r : flags.Reply) (before held : Option (List ℕ)) → only_refuses r ≡ true →
+    AppendsLine before held (answer_text (reply flags.out_of_memory)) → IsSaid (reply r) before held
 said-wanting r before held refuses line = record { shown = reply flags.out_of_memory; like = inr (refuses, refl); line = line }

@@ -1,5 +1,6 @@
 -- The lines of an editor, and what they are answered.
-use Rattle.std.proofs.Common.{◌≡◌, ◌≤◌, ℕ, List, [], ◌∷◌, ◌++◌, All, Option, None, Some, Ok, Err, IfSome, IsSomeAnd, sym, ap, subst, ◌∙◌, append_assoc, append-nil, inl, inr, slice_index_or, arith}
+use Rattle.std.proofs.Common.{◌≡◌, ◌≤◌, ℕ, List, [], ◌∷◌, ◌++◌, All, Option, None, Some, Ok, Err, IfSome, IsSomeAnd}
+use Rattle.std.proofs.Common.{sym, ap, subst, ◌∙◌, append_assoc, append-nil, inl, inr, slice_index_or, arith}
 use Rattle.std.proofs.lemmas.List.Elements.{All-push}
 use Rattle.std.specs.Io.KnownBytes.{Appends}
 use Rattle.fp_base.proofs.Known.{Appends-nil, Appends-more}
@@ -11,7 +12,8 @@ use Rattle.fp_plane.specs.Editing.{IsNoLess, IsServed}
 
 -- ---- answers, one behind the other
 
-AreAnswersTo-push : (xs : List Ask) (bs : List Answer) (x : Ask) (a : Answer) → AreAnswersTo xs bs → IsAnswerTo x a → AreAnswersTo (xs ++ x ∷ []) (bs ++ a ∷ [])
+AreAnswersTo-push : (xs : List Ask) (bs : List Answer) (x : Ask) (a : Answer) → AreAnswersTo xs bs → IsAnswerTo x a →
+    AreAnswersTo (xs ++ x ∷ []) (bs ++ a ∷ [])
 AreAnswersTo-push [] [] x a each one = (one, tt)
 AreAnswersTo-push [] (b ∷ bs) x a each one = absurd each
 AreAnswersTo-push (y ∷ xs) [] x a each one = absurd each
@@ -19,7 +21,8 @@ AreAnswersTo-push (y ∷ xs) (b ∷ bs) x a each one = (each.0, AreAnswersTo-pus
 
 texts_of-push : (bs : List Answer) (a : Answer) → texts_of (bs ++ a ∷ []) ≡ texts_of bs ++ (answer_text a ++ 10 ∷ [])
 texts_of-push [] a = append-nil (answer_text a ++ 10 ∷ [])
-texts_of-push (b ∷ bs) a = ap (λ (t : List ℕ). (answer_text b ++ 10 ∷ []) ++ t) (texts_of-push bs a) ∙ sym (append_assoc (answer_text b ++ 10 ∷ []) (texts_of bs) (answer_text a ++ 10 ∷ []))
+texts_of-push (b ∷ bs) a = ap (λ (t : List ℕ). (answer_text b ++ 10 ∷ []) ++ t) (texts_of-push bs a) ∙
+    sym (append_assoc (answer_text b ++ 10 ∷ []) (texts_of bs) (answer_text a ++ 10 ∷ []))
 
 -- ---- what was told
 
@@ -61,12 +64,15 @@ served-none store held = record {
   ours = tt;
 }
 
-pub served-more : (store : Identity) (told more : Option FrontState) (asked : List Ask) (before held then : Option (List ℕ)) (x : Ask) (a : Answer) → IsServed store told asked before held → IsNoLess more told → IsAnswerTo x a → IsWithin more a
+pub served-more : (store : Identity) (told more : Option FrontState) (asked : List Ask)
+    (before held then : Option (List ℕ)) (x : Ask) (a : Answer) → IsServed store told asked before held →
+    IsNoLess more told → IsAnswerTo x a → IsWithin more a
     → IfSome more (λ f. f.store ≡ store) → Appends held then (answer_text a ++ 10 ∷ []) → IsServed store more (asked ++ x ∷ []) before then
 served-more store told more asked before held then x a served less answers within ours written = record {
   answers = served.answers ++ a ∷ [];
   each = AreAnswersTo-push asked served.answers x a served.each answers;
-  written = subst (Appends before then) (sym (texts_of-push served.answers a)) (Appends-more before held then (texts_of served.answers) (answer_text a ++ 10 ∷ []) served.written written);
+  written = subst (Appends before then) (sym (texts_of-push served.answers a))
+      (Appends-more before held then (texts_of served.answers) (answer_text a ++ 10 ∷ []) served.written written);
   within = All-push (IsWithin more) served.answers a (all_within-more told more served.answers less served.within) within;
   ours = ours;
 }
@@ -74,7 +80,8 @@ served-more store told more asked before held then x a served less answers withi
 -- ---- a source that was asked
 
 -- what it was asked so far, and how that was answered
-pub record IsUnderWay {A S : Type 0} (asks : A → S → List Ask → Type 0) (first : A) (at_first : S) (source : A) (stream : S) (store : Identity) (told : Option FrontState) (before held : Option (List ℕ)) : Type 0 where
+pub record IsUnderWay {A S : Type 0} (asks : A → S → List Ask → Type 0) (first : A) (at_first : S) (source : A)
+    (stream : S) (store : Identity) (told : Option FrontState) (before held : Option (List ℕ)) : Type 0 where
   pub asked : List Ask
   pub came : HasAsked asks first at_first source stream asked
   pub served : IsServed store told asked before held

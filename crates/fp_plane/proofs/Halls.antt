@@ -1,5 +1,6 @@
 -- A hall whose desk draws and settles, and a course of the half beside it.
-use Rattle.std.proofs.Common.{◌≡◌, ◌⊎◌, ◌<◌, ◌++◌, ◌∷◌, ℕ, Ok, Err, Some, None, inl, inr, false, List, [], length, sym, ap, subst, ◌∙◌, arith}
+use Rattle.std.proofs.Common.{◌≡◌, ◌⊎◌, ◌<◌, ◌++◌, ◌∷◌, ℕ, Ok, Err, Some, None, inl, inr, false, List, [], length, sym}
+use Rattle.std.proofs.Common.{ap, subst, ◌∙◌, arith}
 use Rattle.std.specs.Prelude.{IfNone, IfOk, MatchOption, OnErr, Option, Result}
 use Rattle.fp_desk.specs.Desk.{DeskState, IsNewDraw, settled_front}
 use Rattle.fp_disk.specs.Crashes.{EachCrash}
@@ -22,7 +23,9 @@ use Rattle.fp_plane.specs.declared.flushing.Broken.{Broken}
 
 module _ (store : Identity) (desk_lists store_lists : Names) (h : HallState) (w : IsOrderly store desk_lists store_lists h) where
   -- a batch is drawn
-  pub drawn_orderly : (n : DeskHalfState) (group : Group) → IsNewDraw h.desk n.desk group → n.half ≡ record h.half { all = h.half.all ++ group.changes } → IsOrderly store desk_lists store_lists (record h { desk = n.desk; half = n.half })
+  pub drawn_orderly : (n : DeskHalfState) (group : Group) → IsNewDraw h.desk n.desk group →
+      n.half ≡ record h.half { all = h.half.all ++ group.changes } →
+      IsOrderly store desk_lists store_lists (record h { desk = n.desk; half = n.half })
   drawn_orderly n group draw half =
       let is = draw.new_is in record {
         ours = record {
@@ -42,26 +45,56 @@ module _ (store : Identity) (desk_lists store_lists : Names) (h : HallState) (w 
       some_there (x ∷ xs) ys some none = absurd (omega (arith, none))
 
 -- whatever the draw answered
-pub orderly_then : {D E : Type 0} (store : Identity) (desk_lists store_lists : Names) (h : HallState) (n : DeskHalfState) (b m : StoreHalfState D) (X : Type 0) (r : Result (Option ℕ) E) → IsOrderly store desk_lists store_lists h
-    → IfOk r (λ o. MatchOption o X (HaveDrawn (desk_of h) n b m)) → IfOk r (λ o. IfNone o ((n ≡ desk_of h) × (m ≡ b))) → OnErr r ((n ≡ desk_of h) × (m ≡ b)) → IsOrderly store desk_lists store_lists (record h { desk = n.desk; half = n.half })
-orderly_then store desk_lists store_lists h n b m X (Ok None) w drawn none unchanged = subst (λ (d : DeskHalfState). IsOrderly store desk_lists store_lists (record h { desk = d.desk; half = d.half })) (sym none.0) w
-orderly_then store desk_lists store_lists h n b m X (Ok (Some count)) w drawn none unchanged = drawn_orderly store desk_lists store_lists h w n drawn.group drawn.drawn drawn.half
-orderly_then store desk_lists store_lists h n b m X (Err e) w drawn none unchanged = subst (λ (d : DeskHalfState). IsOrderly store desk_lists store_lists (record h { desk = d.desk; half = d.half })) (sym unchanged.0) w
+pub orderly_then : {D E : Type 0} (store : Identity) (desk_lists store_lists : Names) (h : HallState)
+    (n : DeskHalfState) (b m : StoreHalfState D) (X : Type 0) (r : Result (Option ℕ) E) →
+    IsOrderly store desk_lists store_lists h
+    → IfOk r (λ o. MatchOption o X (HaveDrawn (desk_of h) n b m)) →
+    IfOk r (λ o. IfNone o ((n ≡ desk_of h) × (m ≡ b))) → OnErr r ((n ≡ desk_of h) × (m ≡ b)) →
+    IsOrderly store desk_lists store_lists (record h { desk = n.desk; half = n.half })
+orderly_then store desk_lists store_lists h n b m X (Ok None) w drawn none unchanged =
+    subst (λ (d : DeskHalfState). IsOrderly store desk_lists store_lists (record h { desk = d.desk; half = d.half }))
+    (sym none.0) w
+orderly_then store desk_lists store_lists h n b m X (Ok (Some count)) w drawn none unchanged =
+    drawn_orderly store desk_lists store_lists h w n drawn.group drawn.drawn drawn.half
+orderly_then store desk_lists store_lists h n b m X (Err e) w drawn none unchanged =
+    subst (λ (d : DeskHalfState). IsOrderly store desk_lists store_lists (record h { desk = d.desk; half = d.half }))
+    (sym unchanged.0) w
 
 -- ---- the half of a plane
-pub ours_on : {D : Type 0} (disk : Ghosts D) (store : Identity) (desk_lists store_lists : Names) (a b : StoreHalfState D) → Course disk a b → IsStoreOf store desk_lists store_lists a → IsStoreOf store desk_lists store_lists b
+pub ours_on : {D : Type 0} (disk : Ghosts D) (store : Identity) (desk_lists store_lists : Names)
+    (a b : StoreHalfState D) → Course disk a b → IsStoreOf store desk_lists store_lists a →
+    IsStoreOf store desk_lists store_lists b
 ours_on disk store desk_lists store_lists a b course w =
-    let later = course_later disk a b course in record { ours = later.store ∙ w.ours; named = (later.names.0 ∙ w.named.0, later.names.1 ∙ w.named.1) }
+    let later = course_later disk a b course in
+    record { ours = later.store ∙ w.ours; named = (later.names.0 ∙ w.named.0, later.names.1 ∙ w.named.1) }
 
 -- want of memory leaves it as it was
-pub wants : {D : Type 0} (disk : Ghosts D) (a b : StoreHalfState D) (f : CommitFault) → f ≡ Memory → HasCause disk a b f → (b.store.failed ≡ false) × (disk.faults b.store.disk ≡ disk.faults a.store.disk)
+pub wants : {D : Type 0} (disk : Ghosts D) (a b : StoreHalfState D) (f : CommitFault) → f ≡ Memory →
+    HasCause disk a b f → (b.store.failed ≡ false) × (disk.faults b.store.disk ≡ disk.faults a.store.disk)
 wants disk a b StoreFailed is cause = absurd cc
 wants disk a b Memory is (inl wanting) = wanting
 wants disk a b Memory is (inr full) = let both = full.0 in absurd cc
 
-module _ {D : Type 0} (disk : Ghosts D) (only_now : (x : D) (c : List ℕ) → disk.honest x → disk.crash_states_since x (disk.moment x) c → IsOutcome (disk.unsynced x) c) (a b : StoreHalfState D) (exit : EachCrash disk a.store.disk (KeptBy a)) (course : Course disk a b) where
+module _ {D : Type 0} (disk : Ghosts D)
+    (only_now : (x : D) (c : List ℕ) → disk.honest x → disk.crash_states_since x (disk.moment x) c →
+    IsOutcome (disk.unsynced x) c) (a b : StoreHalfState D) (exit : EachCrash disk a.store.disk (KeptBy a))
+    (course : Course disk a b) where
   pub flushes_well : IsResting b → disk.faults b.store.disk ≡ disk.faults a.store.disk → Flushes disk a b (Ok tt)
-  flushes_well rest same = record { course = course; any_moment = course_keeps disk only_now a b exit course; rest = rest; no_failure = same; cause = tt }
+  flushes_well rest same = record {
+    course = course;
+    any_moment = course_keeps disk only_now a b exit course;
+    rest = rest;
+    no_failure =
+        same;
+    cause = tt;
+  }
 
   pub flushes_badly : (e : Broken) → (disk.faults a.store.disk < disk.faults b.store.disk) ⊎ LacksRoom disk b → Flushes disk a b (Err e)
-  flushes_badly e cause = record { course = course; any_moment = course_keeps disk only_now a b exit course; rest = tt; no_failure = tt; cause = cause }
+  flushes_badly e cause = record {
+    course = course;
+    any_moment = course_keeps disk only_now a b exit course;
+    rest = tt;
+    no_failure = tt;
+    cause =
+        cause;
+  }

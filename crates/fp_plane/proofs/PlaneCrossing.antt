@@ -50,7 +50,13 @@ module _ (K R : RattleType) (k : naming.Ghosts K.Denot) (sr : IsSend R) where
             Vec-send _ evaluator_sent,
             (
               seats_sent,
-              (search sendable, (search sendable, (search sendable, (search sendable, (heap.the_field_send, (phantom.the_field_send K, tt)))))),
+              (
+                search sendable,
+                (
+                  search sendable,
+                  (search sendable, (search sendable, (heap.the_field_send, (phantom.the_field_send K, tt)))),
+                ),
+              ),
             ),
           ),
         ),
@@ -58,13 +64,23 @@ module _ (K R : RattleType) (k : naming.Ghosts K.Denot) (sr : IsSend R) where
 
   shared_sent : IsSend (shared.the_row K R k)
   shared_sent = let T = shared.the_type K R k in
-      recorded_send _ _ _ T.to_one (struct_send (shape T)
-      (search (sendable, sr) depth 5, (search (sendable, crosses, hall_sent) depth 10, (condvar.the_field_send, (bells.the_field_send, (condvar.the_field_send, tt))))))
+      recorded_send _ _ _ T.to_one (struct_send (shape T) (
+        search (sendable, sr) depth 5,
+        (
+          search (sendable, crosses, hall_sent) depth 10,
+          (condvar.the_field_send, (bells.the_field_send, (condvar.the_field_send, tt))),
+        ),
+      ))
 
   shared_shared : IsSync R → IsSync (shared.the_row K R k)
   shared_shared yr = let T = shared.the_type K R k in
-      recorded_sync _ _ _ T.to_one (struct_sync (shape T)
-      (search (sendable, yr) depth 5, (search (sendable, crosses, hall_sent) depth 10, (condvar.the_field_sync, (bells.the_field_sync, (condvar.the_field_sync, tt))))))
+      recorded_sync _ _ _ T.to_one (struct_sync (shape T) (
+        search (sendable, yr) depth 5,
+        (
+          search (sendable, crosses, hall_sent) depth 10,
+          (condvar.the_field_sync, (bells.the_field_sync, (condvar.the_field_sync, tt))),
+        ),
+      ))
 
   pub plane_field_sent : IsSync R → IsSend (plane.the_field K R k).row
   plane_field_sent yr = struct_send (shape (plane.the_type K R k)) (Arc-send _ shared_sent (shared_shared yr), tt)
@@ -77,7 +93,13 @@ module _ (K D : RattleType) (k : naming.Ghosts K.Denot) (d : disk.Ghosts D.Denot
   lying_sent = let T = lying_inside.the_type K D k d in
       view_send _ _ _ _ _ (recorded_send _ _ _ T.to_one (struct_send (shape T) (
         store_half_sent D d sd,
-        (search sendable, (gathering.the_field_send, (search sendable, (search (sendable, growing.the_send) depth 10, (phantom.the_field_send K, tt))))),
+        (
+          search sendable,
+          (
+            gathering.the_field_send,
+            (search sendable, (search (sendable, growing.the_send) depth 10, (phantom.the_field_send K, tt))),
+          ),
+        ),
       )))
 
   pub sealing_plane_sent : (R : RattleType) → IsSend R → IsSync R → IsSend (sealing_plane.the_row K D R k d)

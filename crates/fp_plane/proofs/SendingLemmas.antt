@@ -25,8 +25,11 @@ sent-none store had held = record {
 }
 
 -- and a frame more
-pub sent-more : (store : Identity) (had has : Hello) (before held then : Option (List ℕ)) (f : FrontState) → IsSent store had has before held → f.store ≡ store → IsNewer has (front_revision f) → front_revision f < 2 ^ 64
-    → length (document (front_set f).flags) ≤ MOST_BODY → Appends held then (frame (front_revision f) (document (front_set f).flags)) → IsSent store had (Has (front_revision f)) before then
+pub sent-more : (store : Identity) (had has : Hello) (before held then : Option (List ℕ)) (f : FrontState) →
+    IsSent store had has before held → f.store ≡ store → IsNewer has (front_revision f) → front_revision f < 2 ^ 64
+    → length (document (front_set f).flags) ≤ MOST_BODY →
+    Appends held then (frame (front_revision f) (document (front_set f).flags)) →
+    IsSent store had (Has (front_revision f)) before then
 sent-more store had has before held then f sent ours newer fits short written =
     let old = map snapshot_of sent.fronts in let one = snapshot_of f ∷ [] in
     let all : map snapshot_of (sent.fronts ++ f ∷ []) ≡ old ++ one = map-append snapshot_of sent.fronts (f ∷ []) in
@@ -34,8 +37,19 @@ sent-more store had has before held then f sent ours newer fits short written =
     record {
       fronts = sent.fronts ++ f ∷ [];
       ours = All-push (λ (g : FrontState). g.store ≡ store) sent.fronts f sent.ours ours;
-      news = subst (AreNews had) (sym all) (AreNews-append had old one sent.news (record { fits = fits; short = short; newer = subst (λ (h : Hello). IsNewer h (front_revision f)) sent.now newer }, tt));
+      news = subst (AreNews had) (sym all)
+          (AreNews-append had old one sent.news (
+            record {
+              fits = fits;
+              short = short;
+              newer =
+                  subst (λ (h : Hello). IsNewer h (front_revision f)) sent.now newer;
+            },
+            tt,
+          ));
       now = sym (ap (has_after had) all ∙ has_after-append had old one);
-      written = subst (Appends before then) (sym (ap stream_of all ∙ stream_of-append old one ∙ ap (λ (t : List ℕ). stream_of old ++ t) (append-nil bytes)))
+      written = subst (Appends before then)
+          (sym (ap stream_of all ∙ stream_of-append old one ∙
+          ap (λ (t : List ℕ). stream_of old ++ t) (append-nil bytes)))
           (Appends-more before held then (stream_of old) bytes sent.written written);
     }

@@ -26,10 +26,14 @@ use Rattle.fp_group_commit.specs.contracts.store.Store.TheInside as store_inside
 use Rattle.fp_plane.proofs.Crossing.{edit_sent, flags_sent, half_sent}
 
 draw_sent : IsSend draw.the_row
-draw_sent = view_send _ _ _ _ _ (recorded_send _ _ _ (draw_inside.the_type).to_one (struct_send (shape draw_inside.the_type) (search (sendable, crosses, edit_sent) depth 20)))
+draw_sent = view_send _ _ _ _ _
+    (recorded_send _ _ _ (draw_inside.the_type).to_one
+    (struct_send (shape draw_inside.the_type) (search (sendable, crosses, edit_sent) depth 20)))
 
 receipt_sent : IsSend receipt.the_row
-receipt_sent = view_send _ _ _ _ _ (recorded_send _ _ _ (receipt_inside.the_type).to_one (struct_send (shape receipt_inside.the_type) (draw_sent, (part.the_send, tt))))
+receipt_sent = view_send _ _ _ _ _
+    (recorded_send _ _ _ (receipt_inside.the_type).to_one
+    (struct_send (shape receipt_inside.the_type) (draw_sent, (part.the_send, tt))))
 
 held_sent : IsSend (held.the_field).row
 held_sent = enum_send (enums.shape held.the_type) (tt, ((draw_sent, tt), (tt, ((receipt_sent, tt), tt))))

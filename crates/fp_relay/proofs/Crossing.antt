@@ -24,13 +24,19 @@ pub set_shared : IsSync set.the_row
 set_shared = let T = set_inside.the_type in view_sync _ _ _ _ _ (recorded_sync _ _ _ T.to_one (struct_sync (shape T) (shown_shared, tt)))
 
 waiting_sent : IsSend waiting.the_row
-waiting_sent = let T = waiting.the_type in recorded_send _ _ _ T.to_one (struct_send (shape T) (search (sendable, crosses, set_sent, set_shared) depth 10, (search sendable, tt)))
+waiting_sent = let T = waiting.the_type in
+    recorded_send _ _ _ T.to_one (struct_send (shape T)
+    (search (sendable, crosses, set_sent, set_shared) depth 10, (search sendable, tt)))
 
 pub shelf_sent : IsSend shelf.the_row
-shelf_sent = let T = shelf.the_type in recorded_send _ _ _ T.to_one (struct_send (shape T) (search (sendable, crosses, waiting_sent) depth 10, (condvar.the_field_send, tt)))
+shelf_sent = let T = shelf.the_type in
+    recorded_send _ _ _ T.to_one (struct_send (shape T)
+    (search (sendable, crosses, waiting_sent) depth 10, (condvar.the_field_send, tt)))
 
 pub shelf_shared : IsSync shelf.the_row
-shelf_shared = let T = shelf.the_type in recorded_sync _ _ _ T.to_one (struct_sync (shape T) (search (sendable, crosses, waiting_sent) depth 10, (condvar.the_field_sync, tt)))
+shelf_shared = let T = shelf.the_type in
+    recorded_sync _ _ _ T.to_one (struct_sync (shape T)
+    (search (sendable, crosses, waiting_sent) depth 10, (condvar.the_field_sync, tt)))
 
 pub evaluations_sent : (R : RattleType) → IsSend R → IsSend (evaluations.the_row R)
 evaluations_sent R sr = let T = evaluations.the_type R in

@@ -9,7 +9,8 @@ use Rattle.fp_relay.specs.Following.{AreShort, Shows, is_news, news}
 abbrev pub InTurn : List Snapshot → List Snapshot → Hello → Type 0
 InTurn a b last = news last (a ++ b) ≡ news last a ++ news (has_after last (news last a)) b
 
-with_one : (last : Hello) (s : Snapshot) (a b : List Snapshot) (t : Bool) → is_news last s.revision ≡ t → ((l : Hello) → InTurn a b l) → InTurn (s ∷ a) b last
+with_one : (last : Hello) (s : Snapshot) (a b : List Snapshot) (t : Bool) → is_news last s.revision ≡ t →
+    ((l : Hello) → InTurn a b l) → InTurn (s ∷ a) b last
 with_one last s a b true e others = rw e (ap (λ (l : List Snapshot). s ∷ l) (others (Has s.revision)))
 with_one last s a b false e others = rw e (others last)
 
@@ -22,7 +23,8 @@ has_after-append last [] b = refl
 has_after-append last (s ∷ a) b = has_after-append (Has s.revision) a b
 
 -- what was shown of some, and then of more
-pub shows-more : (last mid now : Hello) (old between new : List Snapshot) (a b : List Snapshot) → Shows last mid old between a → Shows mid now between new b → Shows last now old new (a ++ b)
+pub shows-more : (last mid now : Hello) (old between new : List Snapshot) (a b : List Snapshot) →
+    Shows last mid old between a → Shows mid now between new b → Shows last now old new (a ++ b)
 shows-more last mid now old between new a b h k =
     let by_mid : news mid b ≡ news (has_after last (news last a)) b = ap (λ (m : Hello). news m b) h.latest in record {
       shown = k.shown ∙ ap (λ (l : List Snapshot). l ++ news mid b) h.shown ∙ append_assoc old (news last a) (news mid b)

@@ -22,4 +22,5 @@ pub ◌and◌ : {T : RattleType} {Ts : List RattleType} → IsSend T → Capture
 first and others = record { sent = (first, others.sent) }
 
 pub spawned : {Ts : List RattleType} (i : ℕ) (δ : Ty) (ν : Sym) → Captured Ts → IsSend (param i (arg δ no (TupleAt ν Ts)))
-spawned {Ts} i δ ν held = param_send i _ (arg_send δ no _ (recorded_send _ _ _ (type_at ν Ts).to_one (struct_send (shape (type_at ν Ts)) held.sent)))
+spawned {Ts} i δ ν held = param_send i _
+    (arg_send δ no _ (recorded_send _ _ _ (type_at ν Ts).to_one (struct_send (shape (type_at ν Ts)) held.sent)))

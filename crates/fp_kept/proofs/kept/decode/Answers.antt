@@ -1,4 +1,5 @@
-use Rattle.std.proofs.Common.{◌≡◌, ℕ, ◌-◌, true, false, List, ◌++◌, length, Option, Some, None, Result, Ok, Err, IfOk, refl, sym, ap, ap₂, subst, ◌∙◌, length-append, arith}
+use Rattle.std.proofs.Common.{◌≡◌, ℕ, ◌-◌, true, false, List, ◌++◌, length, Option, Some, None, Result, Ok, Err, IfOk}
+use Rattle.std.proofs.Common.{refl, sym, ap, ap₂, subst, ◌∙◌, length-append, arith}
 use Rattle.std.proofs.lemmas.List.{take-append-drop}
 use Rattle.sha2.specs.Sha256.{sha256}
 use Rattle.sha2.proofs.Facts256.{length-sha256}
@@ -9,7 +10,8 @@ use Rattle.fp_kept.proofs.Digests.{digest-of, text-of}
 use Rattle.fp_kept.proofs.kept.decode.Goals as goal
 
 -- what a text is, its text with its digest is kept as
-whole : {E : Type 0} (r : Result (Option Frame) E) (bytes text : List ℕ) → bytes ≡ kept_as text → IfOk r (IsFrame text) → ((s : Snapshot) → bytes ≡ kept_as (frame_of s) → text ≡ frame_of s)
+whole : {E : Type 0} (r : Result (Option Frame) E) (bytes text : List ℕ) → bytes ≡ kept_as text →
+    IfOk r (IsFrame text) → ((s : Snapshot) → bytes ≡ kept_as (frame_of s) → text ≡ frame_of s)
     → IfOk r (IsKept bytes)
 whole (Ok (Some f)) bytes text is p back = (p.0, is ∙ ap kept_as p.1)
 whole (Ok None) bytes text is p back = λ s lawful same. p s lawful (back s same)
@@ -30,5 +32,6 @@ pub returns-then-is_digest : goal.returns-then-is_digest
 returns-then-is_digest c =
     let bytes = c.args.bytes.now in let text = c.split_at.result.0.now in
     let parts : bytes ≡ text ++ sha256 text = sym (take-append-drop (length bytes - 32) bytes)
-    ∙ ap₂ (λ (a b : List ℕ). a ++ b) (sym c.split_at.ensures.front) (sym c.split_at.ensures.back ∙ c.is_digest.ensures.0 c.if-is_digest.true) in
+    ∙ ap₂ (λ (a b : List ℕ). a ++ b) (sym c.split_at.ensures.front)
+    (sym c.split_at.ensures.back ∙ c.is_digest.ensures.0 c.if-is_digest.true) in
     whole c.only_frame.result bytes text parts c.only_frame.ensures (λ s same. c.split_at.ensures.front ∙ text-of bytes (frame_of s) same)

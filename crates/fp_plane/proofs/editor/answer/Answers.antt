@@ -10,5 +10,8 @@ returns-clause-answered g c = λ x all before asks served.
     let old = c.args.told.now in let now = c.keep_greater.new.told in let store = g.K.Naming.store in
     let held = g.O.Write.contents c.args.w.now.inner in let then = g.O.Write.contents c.send_answer.new.w.inner in
     let answers : IsAnswerTo x said.shown = shown-answers x a said.shown (c.answer_to-answer.ensures.answer x asks) said.like in
-    let within : IsWithin now said.shown = shown-within now a said.shown (within-more c.answer_to-answer.result.1 now a keeps.more c.answer_to-answer.ensures.within) said.like in
-    served-more store old now all before held then x said.shown served keeps.kept answers within (keeps.ours store served.ours c.answer_to-answer.ensures.ours) said.line
+    let within : IsWithin now said.shown =
+    shown-within now a said.shown (within-more c.answer_to-answer.result.1 now a keeps.more
+    c.answer_to-answer.ensures.within) said.like in
+    served-more store old now all before held then x said.shown served keeps.kept answers within
+    (keeps.ours store served.ours c.answer_to-answer.ensures.ours) said.line

@@ -4,7 +4,9 @@ use Rattle.fp_plane.proofs.Halls.{ours_on}
 use Rattle.fp_plane.proofs.flushing.flush.Goals as goal
 
 pub settle-waiting-requires-clause-ours : goal.settle-waiting-requires-clause-ours
-settle-waiting-requires-clause-ours g c = let k = g.K.Naming in ours_on g.D.Disk k.store k.desk_lists k.store_lists c.args.half.now c.seal.new.half c.seal.ensures.course c.requires.ours
+settle-waiting-requires-clause-ours g c = let k = g.K.Naming in
+    ours_on g.D.Disk k.store k.desk_lists k.store_lists c.args.half.now c.seal.new.half c.seal.ensures.course
+    c.requires.ours
 
 pub returns-clause-course : goal.returns-clause-course
 returns-clause-course g c =

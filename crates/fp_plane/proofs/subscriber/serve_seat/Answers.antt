@@ -24,12 +24,18 @@ loop-preserved g c =
           let was = c.loop.invariant.1 had before sent in
           let held = g.O.Write.contents c.loop.w.inner in let then = g.O.Write.contents c.write_frame.new.w.inner in
           let text = c.document-in-loop.result.now in
-          let numbered : Appends held then (frame (front_revision front) text) = subst (λ (n : ℕ). Appends held then (frame n text)) c.revision.ensures c.in_ok-write_frame.ensures.frame in
-          let written : Appends held then (frame (front_revision front) (document (front_set front).flags)) = subst (λ (d : List ℕ). Appends held then (frame (front_revision front) d)) c.document-in-loop.ensures numbered in
+          let numbered : Appends held then (frame (front_revision front) text) =
+          subst (λ (n : ℕ). Appends held then (frame n text)) c.revision.ensures
+          c.in_ok-write_frame.ensures.frame in
+          let written : Appends held then (frame (front_revision front) (document (front_set front).flags)) =
+          subst (λ (d : List ℕ). Appends held then (frame (front_revision front) d)) c.document-in-loop.ensures
+          numbered in
           let fits : front_revision front < 2 ^ 64 = search rules in
           let short : length (document (front_set front).flags) ≤ MOST_BODY = search rules in
           subst (λ (h : Hello). IsSent g.K.Naming.store had h before (g.O.Write.contents c.write_frame.new.w.inner)) (sym news.1)
-          (sent-more g.K.Naming.store had (had_by c.loop.seat) before (g.O.Write.contents c.loop.w.inner) (g.O.Write.contents c.write_frame.new.w.inner) front was c.in-Some-handed.ensures.ours news.0 fits short written),
+          (sent-more g.K.Naming.store had (had_by c.loop.seat) before (g.O.Write.contents c.loop.w.inner)
+          (g.O.Write.contents c.write_frame.new.w.inner) front was c.in-Some-handed.ensures.ours news.0 fits
+          short written),
     )
 
 -- the plane was stopped

@@ -9,6 +9,8 @@ use Rattle.fp_plane.proofs.subscriber.subscriber_loop.Goals as goal
 pub returns-in-Ok-served-clause-served : goal.returns-in-Ok-served-clause-served
 returns-in-Ok-served-clause-served g c =
     let hello = c.in-Ok.hello in let held = g.O.Write.contents c.args.w.now.inner in
-    let start : IsSent g.K.Naming.store hello (had_by c.in-Ok-seat.seat) held held = subst (λ (h : Hello). IsSent g.K.Naming.store hello h held held) (sym c.in-Ok-seat.ensures) (sent-none g.K.Naming.store hello held) in
+    let start : IsSent g.K.Naming.store hello (had_by c.in-Ok-seat.seat) held held =
+    subst (λ (h : Hello). IsSent g.K.Naming.store hello h held held) (sym c.in-Ok-seat.ensures)
+    (sent-none g.K.Naming.store hello held) in
     let sent = c.in-Ok-served.ensures.sent hello held start in
     (c.in-Ok-served.ensures.counted, (hello, sent.0, c.in-Ok.ensures.heard, sent.1))

@@ -24,12 +24,14 @@ pub returns-in-Some : goal.returns-in-Some
 returns-in-Some c =
     let asked = asked_by c.args.request.now in
     over _ (option_copied c.args.shown) c.in-Some.shown.now c.set.result.now c.args.origins.now asked c.args.now
-    c.respond_over.new.response (option_map allowance_seen c.allowance-allowance.result) (rw c.in-Some.is refl) c.set.ensures.lawful c.set.ensures.set
+    c.respond_over.new.response (option_map allowance_seen c.allowance-allowance.result) (rw c.in-Some.is refl)
+    c.set.ensures.lawful c.set.ensures.set
     (c.allowance-allowance.ensures ∙ ap (λ (o : Option (List ℕ)). allowed c.args.origins.now o) c.first_value.ensures)
     c.respond_over.ensures
 
 -- the answer where nothing is shown, with what is allowed to who asks
-without : {T E : Type 0} (r : Result T E) (shown : Option Snapshot) (origins : List (List ℕ)) (asked : Asked) (now : ℕ) (response : Response) (a : Option Allowed)
+without : {T E : Type 0} (r : Result T E) (shown : Option Snapshot) (origins : List (List ℕ)) (asked : Asked)
+    (now : ℕ) (response : Response) (a : Option Allowed)
     → shown ≡ None → a ≡ allowed origins asked.origin
     → OnOk r (IsSent (and_allowed (answer_without_set asked a) a) response)
     → OnOk r (Responds shown origins asked now response)

@@ -6,6 +6,7 @@ invariant_of-self g c =
     let k = g.K.Naming in let i = c.self.inside in let s = c.take_step-stepped in (
       c.self.invariant.0,
       left_then g.D.Disk k.store k.desk_lists k.store_lists i.half s.new.half i.began.log i.broken c.is_err-self-inside.result s.result
-          c.self.invariant.1 c.if-self.false s.ensures.course s.ensures.rest s.ensures.no_failure (either_cause _ _ s.result s.ensures.cause)
+          c.self.invariant.1 c.if-self.false s.ensures.course s.ensures.rest s.ensures.no_failure
+          (either_cause _ _ s.result s.ensures.cause)
           c.is_err-self-inside.ensures.value,
     )

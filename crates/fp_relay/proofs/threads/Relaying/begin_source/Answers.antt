@@ -10,4 +10,5 @@ use Rattle.fp_relay.proofs.threads.Relaying.begin_source.Goals as goal
 pub spawn-requires-send-F : goal.spawn-requires-send-F
 spawn-requires-send-F g c κs within =
     let b = c.type_bounds in
-    spawned 1 _ _ (b.send-R and address.the_send and Arc-send _ uplink.the_send uplink.the_sync and hello.the_send and showing_sent (copied 0 g.row.R) b.send-R and nothing)
+    spawned 1 _ _ (b.send-R and address.the_send and Arc-send _ uplink.the_send uplink.the_sync and hello.the_send
+    and showing_sent (copied 0 g.row.R) b.send-R and nothing)
