@@ -1,7 +1,6 @@
 -- Answers as they are said.
 use Rattle.std.proofs.Common.{◌≡◌, ℕ, List, Option, true, refl, inl, inr}
 use Rattle.fp_session.specs.Reply as flags
-use Rattle.fp_session.specs.Reply.{bad_flag_or_memory, fault_of, refusal_of}
 use Rattle.fp_streams.specs.Said.{AppendsLine}
 use Rattle.fp_plane.specs.Answers.{Answer, reply, IsSaid, only_refuses, answer_text}
 

@@ -1,12 +1,10 @@
 -- What was shown of what a source sent so far.
-use Rattle.std.proofs.Common.{◌≡◌, ℕ, List, [], ◌++◌, Option, None, Result, Ok, Err, inl, arith, refl, sym, ap, subst}
+use Rattle.std.proofs.Common.{ℕ, List, [], ◌++◌, Option, None, Err, inl, arith, refl, sym, ap, subst}
 use Rattle.std.proofs.Common.{◌∙◌, append_assoc, append-nil}
 use Rattle.std.specs.Io.KnownBytes.{Consumes}
-use Rattle.std.specs.Global.{Vec}
 use Rattle.std.proofs.KnownBytes.{Consumes-nil, Consumes-trans}
 use Rattle.fp_stream.specs.declared.fault.FrameFault.{FrameFault}
 use Rattle.fp_stream.specs.declared.fault.FrameFault.TheVariants as frame
-use Rattle.fp_stream.specs.declared.frame.Frame.{Frame}
 use Rattle.fp_stream.specs.declared.hello.Hello.{Hello}
 use Rattle.fp_stream.specs.declared.hello.Hello.TheVariants.{Nothing}
 use Rattle.fp_stream.specs.Decoding.{HasRead, Reader, bytes_taken, snapshots_given}

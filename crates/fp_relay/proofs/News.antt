@@ -1,7 +1,7 @@
 -- What is shown of snapshots, one after another.
-use Rattle.std.proofs.Common.{◌≡◌, ℕ, List, [], ◌∷◌, ◌++◌, length, Bool, true, false, refl, sym, ap, subst, ◌∙◌, append_assoc, append-nil}
+use Rattle.std.proofs.Common.{◌≡◌, List, [], ◌∷◌, ◌++◌, Bool, true, false, refl, sym, ap, ◌∙◌, append_assoc, append-nil}
 use Rattle.fp_stream.specs.declared.hello.Hello.{Hello}
-use Rattle.fp_stream.specs.declared.hello.Hello.TheVariants.{Nothing, Has}
+use Rattle.fp_stream.specs.declared.hello.Hello.TheVariants.{Has}
 use Rattle.fp_stream.specs.Frames.{Snapshot, AreNews, has_after}
 use Rattle.fp_relay.specs.Following.{AreShort, Shows, is_news, news}
 

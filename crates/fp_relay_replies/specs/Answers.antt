@@ -1,5 +1,5 @@
 -- What is answered to a request, as a function of the set that is shown.
-use Rattle.std.specs.Prelude.{ℕ, List, [], ◌++◌, ◌∷◌, ◌&&◌, Bool, true, false, Option, Some, None}
+use Rattle.std.specs.Prelude.{ℕ, List, [], ◌&&◌, Bool, true, false, Option, Some, None}
 use Rattle.std.specs.Prelude.{codes, decimal, option_map, is_some, bytes_eq, if◌then◌else◌}
 use Rattle.http1.specs.Fields.{Header}
 use Rattle.http_server.specs.declared.response.Response.{Response}

@@ -1,5 +1,5 @@
 -- A relay's numbers in Prometheus' text format.
-use Rattle.std.specs.Prelude.{ℕ, List, [], ◌∷◌, ◌++◌, codes, decimal}
+use Rattle.std.specs.Prelude.{ℕ, List, [], ◌++◌, codes, decimal}
 use Rattle.fp_relay_replies.specs.declared.status.Answered.{Answered}
 use Rattle.fp_relay_replies.specs.declared.status.Report.{Report}
 

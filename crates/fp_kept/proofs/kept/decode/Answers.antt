@@ -1,11 +1,11 @@
 use Rattle.std.proofs.Common.{◌≡◌, ℕ, ◌-◌, true, false, List, ◌++◌, length, Option, Some, None, Result, Ok, Err, IfOk}
-use Rattle.std.proofs.Common.{refl, sym, ap, ap₂, subst, ◌∙◌, length-append, arith}
+use Rattle.std.proofs.Common.{sym, ap, ap₂, ◌∙◌, length-append, arith}
 use Rattle.std.proofs.lemmas.List.{take-append-drop}
 use Rattle.sha2.specs.Sha256.{sha256}
 use Rattle.sha2.proofs.Facts256.{length-sha256}
 use Rattle.fp_stream.specs.declared.frame.Frame.{Frame}
-use Rattle.fp_stream.specs.Frames.{Snapshot, snapshot_of}
-use Rattle.fp_kept.specs.Kept.{IsCarried, IsFrame, IsKept, frame_of, kept_as}
+use Rattle.fp_stream.specs.Frames.{Snapshot}
+use Rattle.fp_kept.specs.Kept.{IsFrame, IsKept, frame_of, kept_as}
 use Rattle.fp_kept.proofs.Digests.{digest-of, text-of}
 use Rattle.fp_kept.proofs.kept.decode.Goals as goal
 

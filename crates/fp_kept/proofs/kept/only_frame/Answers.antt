@@ -1,4 +1,4 @@
-use Rattle.std.proofs.Common.{◌≡◌, List, arith, sym, ap}
+use Rattle.std.proofs.Common.{arith}
 use Rattle.fp_stream.specs.declared.hello.Hello.TheVariants.{Nothing}
 use Rattle.fp_kept.proofs.OneFrame.{given, one-length}
 use Rattle.fp_kept.proofs.kept.only_frame.Goals as goal

@@ -1,10 +1,10 @@
-use Rattle.std.proofs.Common.{◌≡◌, ℕ, List, [], Result, Ok, Err, IfOk, sym, ap, subst}
+use Rattle.std.proofs.Common.{◌≡◌, ℕ, List, [], Result, Ok, Err, IfOk, sym, subst}
 use Rattle.std.specs.Global.{Vec}
 use Rattle.fp_stream.specs.declared.fault.FrameFault.{FrameFault}
 use Rattle.fp_stream.specs.declared.frame.Frame.{Frame}
 use Rattle.fp_stream.specs.declared.hello.Hello.TheVariants.{Nothing}
 use Rattle.fp_stream.specs.Decoding.{HasRead, Reader, bytes_taken}
-use Rattle.fp_stream.specs.Frames.{Snapshot, snapshots_of}
+use Rattle.fp_stream.specs.Frames.{snapshots_of}
 use Rattle.fp_kept.proofs.kept.whole_frames.Goals as goal
 
 -- no frame was given of all bytes

@@ -1,4 +1,4 @@
-use Rattle.std.proofs.Common.{◌≡◌, ◌≤◌, ℕ, arith, rules}
+use Rattle.std.proofs.Common.{◌≡◌, ◌≤◌, ℕ, arith}
 use Rattle.std.proofs.Math.Pow.{pow_mono}
 use Rattle.fp_relay.specs.Backoff.{base}
 use Rattle.fp_relay.proofs.backoff.base_of.Goals as goal

@@ -1,4 +1,4 @@
-use Rattle.std.proofs.Common.{◌≡◌, refl, sym, ap, subst, ◌∙◌}
+use Rattle.std.proofs.Common.{refl, sym, ap, subst, ◌∙◌}
 use Rattle.fp_relay.specs.Ends.{Follows, of_stream}
 use Rattle.fp_relay.specs.declared.source.SourceEnd.{SourceEnd}
 use Rattle.fp_relay.specs.declared.source.SourceEnd.TheVariants.{Device}

@@ -1,12 +1,12 @@
-use Rattle.std.proofs.Common.{◌≡◌, ℕ, List, [], ◌++◌, take, refl, sym, ap, subst, ◌∙◌}
+use Rattle.std.proofs.Common.{ℕ, ◌++◌, take, refl, sym, ap, subst, ◌∙◌}
 use Rattle.std.specs.Io.KnownBytes.{Consumes}
 use Rattle.std.proofs.KnownBytes.{Consumes-kept, Consumes-trans}
 use Rattle.std.proofs.lemmas.Result.{err_from_is_err_and}
 use Rattle.fp_stream.specs.declared.hello.Hello.TheVariants.{Nothing}
 use Rattle.fp_stream.specs.Frames.{snapshots_of}
-use Rattle.fp_relay.specs.Ends.{Follows, end_of, of_frame, of_stream}
+use Rattle.fp_relay.specs.Ends.{Follows, of_frame, of_stream}
 use Rattle.fp_relay.specs.declared.source.SourceEnd.{SourceEnd}
-use Rattle.fp_relay.specs.declared.source.SourceEnd.TheVariants.{Closed, Device}
+use Rattle.fp_relay.specs.declared.source.SourceEnd.TheVariants.{Device}
 use Rattle.fp_relay.proofs.Followed.{followed, followed-end, followed-front, followed-refused, left-of_frame, short-given}
 use Rattle.fp_relay.proofs.News.{shows-more}
 use Rattle.fp_relay.proofs.source.take_frames.Goals as goal

@@ -1,5 +1,4 @@
 use Rattle.fp_plane.proofs.LyingLemmas.{flushed_badly, flushed_well}
-use Rattle.fp_plane.specs.declared.flushing.Broken.{Broken}
 use Rattle.fp_plane.proofs.leading.Lying.into_flushed.Goals as goal
 
 pub returns-then-broken : goal.returns-then-broken

@@ -1,4 +1,4 @@
-use Rattle.std.proofs.Common.{◌≡◌, ℕ, List, drop, map, string_bytes}
+use Rattle.std.proofs.Common.{◌≡◌, drop, map, string_bytes}
 use Rattle.fp_relay_replies.specs.CrossOrigin.{lists}
 use Rattle.fp_relay_replies.proofs.cross_origin.Origins.lists.Given as goal
 
