@@ -6,6 +6,7 @@ use std::alloc::Global;
 use std::io;
 use std::io::{Read, Write};
 use std::net::{Shutdown, SocketAddr, TcpStream};
+use std::thread;
 use std::time::Duration;
 
 // A flag that is on.
@@ -243,4 +244,46 @@ pub fn response_of(alloc: Global, mut stream: &TcpStream) -> Response {
 pub fn evaluated(alloc: Global, stream: &TcpStream, key: &str) -> Response {
     let _ = say_request(alloc, stream, key);
     response_of(alloc, stream)
+}
+
+/// Whether a flag is found within ten seconds by this port.
+pub fn comes<R: Host>(rt: &R, at: SocketAddr, key: &str) -> bool {
+    for _ in 0..1000 {
+        if let Ok(stream) = connect(rt, at)
+            && evaluated(rt.alloc(), &stream, key).is_found
+        {
+            return true;
+        }
+        thread::sleep(rt, Duration::from_millis(10));
+    }
+    false
+}
+
+/// Whether the page at this path of this port has this line within ten seconds.
+pub fn page_has<R: Host>(rt: &R, at: SocketAddr, path: &str, line: &str) -> bool {
+    for _ in 0..1000 {
+        if let Ok(stream) = connect(rt, at)
+            && has_line(rt.alloc(), &stream, path, line)
+        {
+            return true;
+        }
+        thread::sleep(rt, Duration::from_millis(10));
+    }
+    false
+}
+
+// The most bytes of a page.
+const LONGEST_PAGE: u64 = 65_536;
+
+fn has_line(alloc: Global, mut stream: &TcpStream, path: &str, line: &str) -> bool {
+    let mut request = Text::new(alloc);
+    request.push("GET ");
+    request.push(path);
+    request.push(" HTTP/1.1\r\nhost: h\r\nconnection: close\r\n\r\n");
+    if !say(stream, request.as_str().as_bytes()) {
+        return false;
+    }
+    let page = bytes_of(alloc, &mut stream, LONGEST_PAGE);
+    let text = str::from_utf8(&page).unwrap_or("");
+    text.lines().any(|it| it == line)
 }
