@@ -3,11 +3,10 @@
 use fp_server::Host;
 use fp_transcript::Text;
 use std::alloc::Global;
-use std::io;
 use std::io::{Read, Write};
 use std::net::{Shutdown, SocketAddr, TcpStream};
-use std::thread;
 use std::time::Duration;
+use std::{io, thread};
 
 // A flag that is on.
 const ON: &str = r#"{"defaultVariant":"on","state":"ENABLED","variants":{"on":true}}"#;

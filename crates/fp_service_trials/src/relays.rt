@@ -161,12 +161,7 @@ fn spawned<R: Host>(
 }
 
 // Relays as the words say, and gives the fault that ended it.
-fn run<R: Host>(
-    rt: &R,
-    files: SystemFiles<HostRuntime>,
-    words: &[String],
-    pipes: Pipes,
-) -> String {
+fn run<R: Host>(rt: &R, files: SystemFiles<HostRuntime>, words: &[String], pipes: Pipes) -> String {
     let mut said = Text::new(rt.alloc());
     if let Some(texts) = texts_of(rt.alloc(), words) {
         relayed(rt, files, &texts, pipes, &mut said);
