@@ -248,9 +248,7 @@ pub fn evaluated(alloc: Global, stream: &TcpStream, key: &str) -> Response {
 /// Whether a flag is found within ten seconds by this port.
 pub fn comes<R: Host>(rt: &R, at: SocketAddr, key: &str) -> bool {
     for _ in 0..1000 {
-        if let Ok(stream) = connect(rt, at)
-            && evaluated(rt.alloc(), &stream, key).is_found
-        {
+        if is_found(rt, at, key) == Some(true) {
             return true;
         }
         thread::sleep(rt, Duration::from_millis(10));
@@ -258,12 +256,15 @@ pub fn comes<R: Host>(rt: &R, at: SocketAddr, key: &str) -> bool {
     false
 }
 
+fn is_found<R: Host>(rt: &R, at: SocketAddr, key: &str) -> Option<bool> {
+    let stream = connect(rt, at).ok()?;
+    Some(evaluated(rt.alloc(), &stream, key).is_found)
+}
+
 /// Whether the page at this path of this port has this line within ten seconds.
 pub fn page_has<R: Host>(rt: &R, at: SocketAddr, path: &str, line: &str) -> bool {
     for _ in 0..1000 {
-        if let Ok(stream) = connect(rt, at)
-            && has_line(rt.alloc(), &stream, path, line)
-        {
+        if has_line(rt, at, path, line) == Some(true) {
             return true;
         }
         thread::sleep(rt, Duration::from_millis(10));
@@ -274,15 +275,14 @@ pub fn page_has<R: Host>(rt: &R, at: SocketAddr, path: &str, line: &str) -> bool
 // The most bytes of a page.
 const LONGEST_PAGE: u64 = 65_536;
 
-fn has_line(alloc: Global, mut stream: &TcpStream, path: &str, line: &str) -> bool {
-    let mut request = Text::new(alloc);
+fn has_line<R: Host>(rt: &R, at: SocketAddr, path: &str, line: &str) -> Option<bool> {
+    let stream = connect(rt, at).ok()?;
+    let mut request = Text::new(rt.alloc());
     request.push("GET ");
     request.push(path);
     request.push(" HTTP/1.1\r\nhost: h\r\nconnection: close\r\n\r\n");
-    if !say(stream, request.as_str().as_bytes()) {
-        return false;
-    }
-    let page = bytes_of(alloc, &mut stream, LONGEST_PAGE);
-    let text = str::from_utf8(&page).unwrap_or("");
-    text.lines().any(|it| it == line)
+    let _ = say(&stream, request.as_str().as_bytes());
+    let page = bytes_of(rt.alloc(), &mut &stream, LONGEST_PAGE);
+    let text = str::from_utf8(&page).ok()?;
+    Some(text.lines().any(|it| it == line))
 }
