@@ -3,10 +3,10 @@
 use fp_server::Host;
 use fp_transcript::Text;
 use std::alloc::Global;
-use std::io;
 use std::io::{Read, Write};
 use std::net::{Shutdown, SocketAddr, TcpStream};
 use std::time::Duration;
+use std::{io, thread};
 
 // A flag that is on.
 const ON: &str = r#"{"defaultVariant":"on","state":"ENABLED","variants":{"on":true}}"#;
@@ -243,4 +243,46 @@ pub fn response_of(alloc: Global, mut stream: &TcpStream) -> Response {
 pub fn evaluated(alloc: Global, stream: &TcpStream, key: &str) -> Response {
     let _ = say_request(alloc, stream, key);
     response_of(alloc, stream)
+}
+
+/// Whether a flag is found within ten seconds by this port.
+pub fn comes<R: Host>(rt: &R, at: SocketAddr, key: &str) -> bool {
+    for _ in 0..1000 {
+        if is_found(rt, at, key) == Some(true) {
+            return true;
+        }
+        thread::sleep(rt, Duration::from_millis(10));
+    }
+    false
+}
+
+fn is_found<R: Host>(rt: &R, at: SocketAddr, key: &str) -> Option<bool> {
+    let stream = connect(rt, at).ok()?;
+    Some(evaluated(rt.alloc(), &stream, key).is_found)
+}
+
+/// Whether the page at this path of this port has this line within ten seconds.
+pub fn page_has<R: Host>(rt: &R, at: SocketAddr, path: &str, line: &str) -> bool {
+    for _ in 0..1000 {
+        if has_line(rt, at, path, line) == Some(true) {
+            return true;
+        }
+        thread::sleep(rt, Duration::from_millis(10));
+    }
+    false
+}
+
+// The most bytes of a page.
+const LONGEST_PAGE: u64 = 65_536;
+
+fn has_line<R: Host>(rt: &R, at: SocketAddr, path: &str, line: &str) -> Option<bool> {
+    let stream = connect(rt, at).ok()?;
+    let mut request = Text::new(rt.alloc());
+    request.push("GET ");
+    request.push(path);
+    request.push(" HTTP/1.1\r\nhost: h\r\nconnection: close\r\n\r\n");
+    let _ = say(&stream, request.as_str().as_bytes());
+    let page = bytes_of(rt.alloc(), &mut &stream, LONGEST_PAGE);
+    let text = str::from_utf8(&page).ok()?;
+    Some(text.lines().any(|it| it == line))
 }

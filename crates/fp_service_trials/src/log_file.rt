@@ -24,6 +24,11 @@ impl LogFile {
         let _ = fs::remove_file(&self.0, NAME);
     }
 
+    /// Removes a file that a trial left beside it.
+    pub fn forget(&self, name: &str) {
+        let _ = fs::remove_file(&self.0, name);
+    }
+
     /// Whether this is told within ten seconds.
     pub fn comes_to(&self, text: &str) -> bool {
         for _ in 0..1000 {

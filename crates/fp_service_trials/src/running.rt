@@ -58,22 +58,22 @@ impl Ports {
     }
 }
 
-// The address in the next line, behind its name.
-fn address(alloc: Global, output: &mut UnixStream, name: &str) -> Option<SocketAddr> {
+/// The address in the next line, behind its name.
+pub fn address(alloc: Global, output: &mut UnixStream, name: &str) -> Option<SocketAddr> {
     let line = line_of(alloc, output);
     let text = str::from_utf8(&line).ok()?;
     text.strip_prefix(name)?.parse::<SocketAddr>().ok()
 }
 
-// An input and an output, of which each has its other end elsewhere.
+/// An input and an output, of which each has its other end elsewhere.
 #[derive(Drop)]
-struct Pipes {
-    input: UnixStream,
-    output: UnixStream,
+pub struct Pipes {
+    pub input: UnixStream,
+    pub output: UnixStream,
 }
 
-// Two of them, each the other end of the other one.
-fn both_ends(rt: HostRuntime) -> Option<(Pipes, Pipes)> {
+/// Two of them, each the other end of the other one.
+pub fn both_ends(rt: HostRuntime) -> Option<(Pipes, Pipes)> {
     let (input, their_input) = UnixStream::pair(&rt).ok()?;
     let (output, their_output) = UnixStream::pair(&rt).ok()?;
     let theirs = Pipes {
@@ -245,15 +245,20 @@ impl<R: Host> Running<R> {
         })
     }
 
+    /// Ends its input, and waits for nothing.
+    pub fn close(&self) {
+        let _ = self.pipes.input.shutdown(Shutdown::Both);
+    }
+
     /// Ends its input, and waits for what becomes of it: what it said last, then its fault.
     pub fn end(self, rt: &R) -> Ended {
+        self.close();
         let Running {
             ports: _,
             gate: _,
             mut pipes,
             thread,
         } = self;
-        let _ = pipes.input.shutdown(Shutdown::Both);
         let Ended { said, left } = thread.join(rt);
         let mut last = String::new(rt.alloc());
         let _ = pipes.output.read_to_string(&mut last);

@@ -1,17 +1,22 @@
 //! The commands of a file of trials of the service.
 
-use crate::clients::{bytes_of, connect, end, fill, is_closed, is_quiet, line_of, put_often, say};
+use crate::clients::{
+    bytes_of, comes, connect, end, is_closed, is_quiet, line_of, page_has, put_often, say,
+};
 use crate::courses::{
-    Course, Courses, revisions_in, seen, shown, start_editors, start_evaluators, start_subscribers,
-    told,
+    Courses, seen, shown, start_editors, start_evaluators, start_subscribers, told,
 };
 use crate::crowd::{comes_in, enter, found, is_refused, see};
-use crate::held::Hold;
+use crate::host::Host;
 use crate::log_file::LogFile;
+use crate::operands::{
+    bytes, course, filled, first_line, hold_of, is_at, limits_of, say_last, say_told,
+};
 use crate::program::attended;
+use crate::relays::{Relays, judged};
 use crate::running::{DiskPlan, Ended, Plan, Running};
-use fp_server::{Host, TimeLimits};
-use fp_transcript::{Args, Text, Texts, expanded};
+use fp_server::TimeLimits;
+use fp_transcript::{Args, Text, Texts};
 use std::alloc::AllocGlobal;
 use std::collections::BTreeMap;
 use std::net::{SocketAddr, TcpStream};
@@ -30,6 +35,7 @@ pub struct Script<R: Host> {
     peers: BTreeMap<String, TcpStream>,
     crowd: Vec<TcpStream>,
     courses: Courses,
+    relays: Relays,
 }
 
 impl<R: Host> Script<R> {
@@ -45,12 +51,19 @@ impl<R: Host> Script<R> {
             peers: BTreeMap::new(alloc),
             crowd: Vec::new(alloc),
             courses: Courses::new(alloc),
+            relays: Relays::new(alloc),
         }
     }
 
-    /// Ends the service that still runs.
+    /// Ends the relays and the service that still run.
     pub fn end(self) {
-        let Script { rt, service, .. } = self;
+        let Script {
+            rt,
+            service,
+            relays,
+            ..
+        } = self;
+        relays.end_all(&rt);
         if let Some(service) = service {
             let _ended = service.end(&rt);
         }
@@ -71,12 +84,26 @@ impl<R: Host> Script<R> {
 }
 
 // The words of `on_service`.
-const OF_SERVICE: [&str; 11] = [
-    "serve", "attend", "hold", "held", "let-go", "end", "stop", "left", "log", "logs", "pause",
+const OF_SERVICE: [&str; 12] = [
+    "serve", "attend", "hold", "held", "let-go", "closes", "end", "stop", "left", "log", "logs",
+    "pause",
 ];
 
 // The words of `on_peer`.
 const OF_PEER: [&str; 7] = ["say", "line", "hear", "puts", "fills", "quiet", "closed"];
+
+// The words of `on_relay`.
+const OF_RELAY: [&str; 9] = [
+    "relay",
+    "relay-ends",
+    "relay-words",
+    "source",
+    "takes",
+    "leaves",
+    "comes",
+    "page",
+    "forget",
+];
 
 // The words of `on_crowd`.
 const OF_CROWD: [&str; 5] = ["enter", "refused", "comes-in", "one-leaves", "all-leave"];
@@ -98,6 +125,8 @@ impl<R: Host> Script<R> {
             self.on_service(word, args, out);
         } else if OF_PEER.contains(&word) {
             self.on_peer(word, args, out);
+        } else if OF_RELAY.contains(&word) {
+            self.on_relay(word, args, out);
         } else if OF_CROWD.contains(&word) {
             self.on_crowd(word, args, out);
         } else if OF_COURSE.contains(&word) {
@@ -114,14 +143,17 @@ impl<R: Host> Script<R> {
         port
     }
 
-    // The address of the port of this name, where a service runs.
+    // The address of the port of this name, of the service that runs, a relay or the source.
     fn address_of(&self, name: &str) -> Option<SocketAddr> {
-        self.service.as_ref()?.ports.port(name)
+        match &self.service {
+            Some(service) if !name.contains('.') && name != "source" => service.ports.port(name),
+            _ => self.relays.address_of(name),
+        }
     }
 
     // `serve`, `serve failing CALL`, `serve slots SIZE`, `serve old`,
     // `serve within IDLE REQUEST REPLY SIZE`, `attend WORD ..`, `hold behind COUNT`,
-    // `hold from PLACE`, `held`, `let-go`, `end`, `stop`, `left`, `log`, `logs TEXT`,
+    // `hold from PLACE`, `held`, `let-go`, `closes`, `end`, `stop`, `left`, `log`, `logs TEXT`,
     // `pause MILLISECONDS`.
     fn on_service(&mut self, word: &str, args: &mut Args<'_>, out: &mut Text) {
         match word {
@@ -190,6 +222,7 @@ impl<R: Host> Script<R> {
             "hold" => service.gate.hold(hold_of(args)),
             "held" if service.gate.comes_to_hold() => out.push("held"),
             "held" => out.push("not held"),
+            "closes" => service.close(),
             _ => service.gate.let_go(),
         }
     }
@@ -279,6 +312,52 @@ impl<R: Host> Script<R> {
         out.named(", lost", lost);
     }
 
+    // `relay NAME PORT WORD ..`, `relay-ends NAME`, `relay-words WORD ..`, `source`, `takes NAME`,
+    // `leaves NAME`, `forget FILE`, `comes PORT KEY`, `page PORT PATH LINE`.
+    fn on_relay(&mut self, word: &str, args: &mut Args<'_>, out: &mut Text) {
+        match word {
+            "relay" => self.relay(args, out),
+            "relay-ends" => match self.relays.end(&self.rt, args.word()) {
+                Some(said) => out.push(said.as_str()),
+                None => args.is_bad = true,
+            },
+            "relay-words" => judged(self.rt.alloc(), &self.words(args), out),
+            "source" if self.relays.play(&self.rt) => (),
+            "source" => out.push("no source"),
+            "takes" => self.take(args, out),
+            "leaves" => drop(self.peers.remove(args.word())),
+            "forget" => self.log.forget(args.word()),
+            _ => match self.port(args) {
+                Some(at) if word == "page" => {
+                    out.yes(page_has(&self.rt, at, args.word(), args.rest));
+                }
+                Some(at) => out.yes(comes(&self.rt, at, args.word())),
+                None => args.is_bad = true,
+            },
+        }
+    }
+
+    fn relay(&mut self, args: &mut Args<'_>, out: &mut Text) {
+        let name = args.word();
+        let words = self.words(args);
+        if !self.relays.start(&self.rt, self.log.0, name, words) {
+            out.push("no relay");
+        }
+    }
+
+    // Who comes to the source next.
+    fn take(&mut self, args: &mut Args<'_>, out: &mut Text) {
+        match (
+            self.relays.take(&self.rt),
+            String::from_str(args.alloc, args.word()),
+        ) {
+            (Some(stream), Ok(name)) => {
+                let _ = self.peers.insert(name, stream);
+            }
+            _ => out.push("nobody"),
+        }
+    }
+
     // `enter PORT COUNT BYTES`, `refused PORT`, `comes-in PORT BYTES`, `one-leaves`, `all-leave`.
     fn on_crowd(&mut self, word: &str, args: &mut Args<'_>, out: &mut Text) {
         match word {
@@ -335,82 +414,4 @@ impl<R: Host> Script<R> {
             _ => out.number(found(rt, service.ports.edit, service.ports.ofrep, count)),
         }
     }
-}
-
-// `IDLE REQUEST REPLY`, each in milliseconds.
-fn limits_of(args: &mut Args<'_>) -> TimeLimits {
-    TimeLimits {
-        idle: Duration::from_millis(args.number()),
-        request: Duration::from_millis(args.number()),
-        reply: Duration::from_millis(args.number()),
-    }
-}
-
-fn first_line(text: &str) -> &str {
-    text.lines().next().unwrap_or("")
-}
-
-// `behind COUNT`, `from PLACE`.
-fn hold_of(args: &mut Args<'_>) -> Hold {
-    match args.word() {
-        "behind" => Hold::Behind(args.number()),
-        _ => Hold::WriteFrom(args.number()),
-    }
-}
-
-fn course(word: &str, args: &mut Args<'_>) -> Course {
-    Course {
-        number: 0,
-        count: args.number(),
-        is_at_once: args.word() == "at-once",
-        is_turning: word == "turners",
-    }
-}
-
-// The bytes that are left of the line.
-fn bytes(texts: &Texts, args: &mut Args<'_>) -> Vec<u8> {
-    match expanded(args.alloc, texts, args.rest) {
-        Ok(bytes) => bytes,
-        Err(_) => {
-            args.is_short = true;
-            Vec::new(args.alloc)
-        }
-    }
-}
-
-// Puts so many flags of the definition that the words say.
-fn filled(peer: &TcpStream, texts: &Texts, args: &mut Args<'_>) -> Option<u64> {
-    let count = args.number();
-    let flag = bytes(texts, args);
-    fill(args.alloc, peer, count, str::from_utf8(&flag).ok()?)
-}
-
-// The revision that was told last, if all were in order.
-fn say_last(last: Option<u64>, out: &mut Text) {
-    match last {
-        Some(last) => out.named("one by one, to", last),
-        None => out.push("not one by one"),
-    }
-}
-
-// Whether the service stopped at the revision that its disk is left at.
-fn is_at(said: &str, left: &str) -> Option<bool> {
-    let said = said.trim_end().strip_prefix("stopped at ")?;
-    let (revision, _) = left.split_once(',')?;
-    Some(said == revision)
-}
-
-// How many revisions were told, and whether they are those from 1 on, each once.
-fn say_told(told: &Text, out: &mut Text) {
-    let revisions = revisions_in(told.alloc, told.as_str());
-    let last = revisions.len() as u64;
-    let are_all = revisions.iter().copied().eq(1..=last);
-    out.named(
-        if are_all {
-            "each from 1 to"
-        } else {
-            "others, so many:"
-        },
-        last,
-    );
 }
