@@ -1,7 +1,7 @@
 //! A service whose answers are counted.
 
-use crate::counts::Tally;
 use bytes::Bytes;
+use fp_connections::Tally;
 use http::Request;
 use http_server::{Response, Service};
 use std::alloc::AllocError;

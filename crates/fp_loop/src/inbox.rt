@@ -1,20 +1,12 @@
 //! What loops are handed from other threads: connections, news, and that they stop.
 
 use crate::news::{Newest, News};
+use fp_connections::Role;
 use mio::Waker;
 use std::alloc::{AllocError, Global};
 use std::mem;
 use std::net::TcpStream;
 use std::sync::{Arc, Mutex, Wait};
-
-/// What a connection is for.
-#[derive(Debug, Drop, Clone, Copy, PartialEq, Eq)]
-pub enum Role {
-    /// Requests over HTTP/1.1.
-    Requests,
-    /// A hello, and frames.
-    Frames,
-}
 
 // What was handed in and not taken yet.
 #[derive(Drop)]

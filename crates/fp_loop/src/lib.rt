@@ -2,8 +2,6 @@
 #![tactic(auto)]
 
 mod counting;
-mod counts;
-mod head;
 mod heard;
 mod inbox;
 mod listening;
@@ -11,7 +9,6 @@ mod member;
 mod news;
 mod outgoing;
 mod peer;
-mod probing;
 mod socket;
 mod starting;
 mod subscriber;
@@ -20,8 +17,7 @@ mod times;
 mod turn;
 mod turning;
 
-pub use counts::{Counted, Counts};
-pub use inbox::{Inbox, Loops, Role};
+pub use inbox::{Inbox, Loops};
 pub use listening::{Door, Listening};
 pub use news::{Informed, News};
 pub use outgoing::Outgoing;

@@ -1,9 +1,8 @@
 //! What lets connections in.
 
-use crate::counts::Counts;
-use crate::inbox::{Loops, Role};
+use crate::inbox::Loops;
 use crate::news::News;
-use crate::probing::probe_peers;
+use fp_connections::{Counts, Role, probe_peers};
 use std::alloc::Global;
 use std::net::{IpAddr, Ipv4Addr, Net, SocketAddr, SocketAddrV4, TcpListener, TcpStream};
 use std::sync::atomic::{AtomicBool, Ordering};

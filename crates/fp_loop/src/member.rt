@@ -3,7 +3,6 @@
 ghost use Rattle.fp_loop.specs.Talks.{Serves};
 
 use crate::counting::Counting;
-use crate::inbox::Role;
 use crate::news::{Newest, News};
 use crate::peer::Peer;
 use crate::socket::Socket;
@@ -11,6 +10,7 @@ use crate::subscriber::Subscriber;
 use crate::talk::Beginning;
 use crate::times::Limits;
 use crate::turn::Turn;
+use fp_connections::Role;
 use http_server::Service;
 use std::alloc::Global;
 

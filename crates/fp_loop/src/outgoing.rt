@@ -9,9 +9,8 @@ ghost use Rattle.fp_stream.specs.Frames.{Snapshot, frame};
 ghost use Rattle.fp_stream.specs.declared.head.TheConstants.{MOST_BODY};
 ghost use Rattle.fp_stream.specs.Heads.{IsNewer};
 
-use crate::head::{HEAD, head_bytes};
 use crate::news::News;
-use fp_stream::Hello;
+use fp_stream::{HEAD, Hello, head_bytes};
 use std::alloc::Global;
 use std::sync::Arc;
 

@@ -4,13 +4,13 @@ ghost use Rattle.std.specs.Prelude.{◌≡◌};
 ghost use Rattle.fp_loop.specs.Outgoing.{GoesOnTelling};
 ghost use Rattle.fp_loop.specs.Subscribers.{TellsOn};
 
-use crate::counts::Tally;
 use crate::heard::{Heard, hello_of};
 use crate::news::{Newest, News};
 use crate::outgoing::Outgoing;
 use crate::socket::{Socket, is_passing};
 use crate::times::{Limits, Waiting, is_over_time};
 use crate::turn::Turn;
+use fp_connections::Tally;
 use std::io::Read;
 use std::sync::Arc;
 

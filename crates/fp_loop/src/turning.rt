@@ -1,8 +1,7 @@
 //! The loop of one thread over its connections.
 
 use crate::counting::Counting;
-use crate::counts::{Counts, Tally};
-use crate::inbox::{Inbox, Role, Taken};
+use crate::inbox::{Inbox, Taken};
 use crate::member::{Kind, Member};
 use crate::news::{Informed, Newest, News};
 use crate::peer::Peer;
@@ -11,6 +10,7 @@ use crate::subscriber::Subscriber;
 use crate::talk::Beginning;
 use crate::times::Limits;
 use crate::turn::Turn;
+use fp_connections::{Counts, Role, Tally};
 use http_server::Config;
 use http1::Limits as HeadLimits;
 use mio::event::Event;

@@ -4,9 +4,8 @@ ghost use Rattle.std.specs.Prelude.{[], ◌∷◌};
 
 use crate::backoff::delay;
 use crate::events::{Event, tell, tell_failure};
-use crate::host::Host;
 use crate::numbers::Numbers;
-use crate::probing::probe_peer;
+use fp_connections::{Host, probe_peers};
 use crate::set::Set;
 use crate::shelf::Shelf;
 use crate::source::{Audience, SourceEnd, follow};
@@ -128,7 +127,7 @@ fn attend_source<R: Host>(
 ) -> io::Result<SourceEnd> {
     let numbers = Arc::try_clone(&showing.numbers)?;
     let stream = uplink.connect(rt, address)?;
-    probe_peer(&stream);
+    probe_peers(&stream);
     numbers.connect(rt, true);
     tell(rt, &Event::SourceReached { address });
     let mut service = FailureCounted::new(&stream);

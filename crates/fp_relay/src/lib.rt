@@ -4,10 +4,8 @@
 mod backoff;
 mod events;
 mod following;
-mod host;
 mod numbers;
 mod ports;
-mod probing;
 mod restoring;
 mod running;
 mod services;
@@ -19,9 +17,9 @@ mod uplink;
 mod words;
 
 pub use backoff::delay;
+pub use fp_connections::Host;
 pub use fp_kept::{KeptFiles, KeptParts, SystemFiles};
 pub use fp_relay_replies::Origins;
-pub use host::Host;
 pub use running::{RelayFault, relay};
 pub use source::{Audience, SourceEnd, follow};
 pub use words::{Options, WordsFault, options_of};

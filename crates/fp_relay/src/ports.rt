@@ -1,7 +1,7 @@
 //! The ports of a relay.
 
 use crate::events::{Event, tell, tell_failure};
-use crate::host::Host;
+use fp_connections::Host;
 use crate::words::Options;
 use fp_loop::Listening;
 use fp_streams::{FailureCounted, StreamFault};

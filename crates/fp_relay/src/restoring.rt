@@ -2,7 +2,7 @@
 
 use crate::events::{Event, tell, tell_failure};
 use crate::following::Showing;
-use crate::host::Host;
+use fp_connections::Host;
 use crate::set::Set;
 use fp_kept::{KeptFile, KeptFiles};
 use fp_shown::Shown;

@@ -1,6 +1,6 @@
 //! A relay over sockets, from its start to its end.
 
-use crate::host::Host;
+use fp_connections::Host;
 use crate::ports::Ports;
 use crate::threads::Relaying;
 use crate::words::Options;

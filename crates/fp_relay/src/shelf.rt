@@ -1,7 +1,7 @@
 //! The thread that keeps the newest set in a file, beside those that show it.
 
 use crate::events::{Event, tell_failure};
-use crate::host::Host;
+use fp_connections::Host;
 use crate::set::Set;
 use fp_kept::{KeptFile, KeptFiles, parts_of};
 use fp_loop::News;

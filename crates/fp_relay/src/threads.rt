@@ -1,7 +1,7 @@
 //! The threads of a relay: its loops, who lets connections in, who follows the source, who keeps.
 
 use crate::following::{Showing, follow_source};
-use crate::host::Host;
+use fp_connections::{Counts, Host, Role};
 use crate::numbers::Numbers;
 use crate::ports::{Port, Ports};
 use crate::restoring::restored;
@@ -12,7 +12,7 @@ use crate::uplink::Uplink;
 use crate::words::Options;
 use fp_fronts::Growing;
 use fp_kept::{KeptFile, KeptFiles};
-use fp_loop::{Counts, Door, Informed, Limits, Listening, Loop, Loops, Role};
+use fp_loop::{Door, Informed, Limits, Listening, Loop, Loops};
 use fp_relay_replies::Origins;
 use fp_stream::Hello;
 use std::alloc::Global;

@@ -1,6 +1,6 @@
 //! The connection to the source, as one thread follows it and another one ends that.
 
-use crate::host::Host;
+use fp_connections::Host;
 use std::io;
 use std::io::ErrorKind;
 use std::net::{Shutdown, SocketAddrV4, TcpStream};

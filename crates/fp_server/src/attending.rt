@@ -6,7 +6,7 @@ ghost use Rattle.fp_server.specs.Attends.{Attends};
 ghost use Rattle.fp_server.specs.Tasks.{AsksFor};
 ghost use Rattle.fp_server.specs.declared.task.Task.{Task};
 
-use crate::host::Host;
+use fp_connections::Host;
 use crate::serving::serve;
 use crate::task::{Task, task_of};
 use crate::watching::watch;

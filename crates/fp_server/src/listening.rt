@@ -4,8 +4,7 @@ ghost use Rattle.std.specs.Prelude.{◌≡◌};
 
 use crate::connections::{Connections, Place};
 use crate::ended::Ended;
-use crate::host::Host;
-use crate::probing::probe_peers;
+use fp_connections::{Host, probe_peers};
 use crate::roles::{Role, converse};
 use fp_disk::Disk;
 use fp_http::TimeLimits;

@@ -2,7 +2,7 @@
 
 use crate::ended::Ended;
 use crate::evaluations::{LentEvaluator, LoanFault};
-use crate::host::Host;
+use fp_connections::Host;
 use crate::noted::Noted;
 use crate::serving::moment;
 use fp_disk::Disk;

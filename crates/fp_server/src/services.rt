@@ -5,7 +5,7 @@ ghost use Rattle.std.specs.Io.KnownBytes.{Appends, IsAtEnd};
 ghost use Rattle.fp_streams.specs.Failures.{CountsFailures};
 ghost use Rattle.fp_server.specs.Ends.{IsAttendingFault, SaysWhere, where_text};
 
-use crate::host::Host;
+use fp_connections::Host;
 use crate::listening::Listening;
 use crate::roles::Role;
 use fp_commands::CommandFault;

@@ -13,7 +13,7 @@ ghost use Rattle.fp_server.specs.Attends.{Serves};
 ghost use Rattle.fp_server.specs.Ends.{IsBrokenOff, IsBrokenStore, IsServedStore};
 ghost use Rattle.fp_server.specs.Ends.{IsServingFault, SaysWhere};
 
-use crate::host::Host;
+use fp_connections::Host;
 use crate::services::{Addresses, Services, fault_of};
 use fp_commands::CommandFault;
 use fp_committer::{DeskHalf, StoreHalf};

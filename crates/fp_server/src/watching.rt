@@ -7,7 +7,7 @@ ghost use Rattle.fp_stream.specs.Watching.{BlamesStreams, Watches};
 ghost use Rattle.fp_stream.specs.declared.hello.Hello.TheVariants.{Nothing};
 ghost use Rattle.fp_server.specs.Attends.{BlamesWriter, ShowsFrames};
 
-use crate::host::Host;
+use fp_connections::Host;
 use fp_log::{Event, Reported, Source, tell_failure};
 use fp_stream::{Hello, WatchFault, watch_loop, write_hello};
 use fp_streams::FailureCounted;

@@ -1,7 +1,6 @@
 //! Probes of peers that say nothing: the system asks a silent one whether it is still there.
 
 use libc::net as c;
-use std::net::TcpListener;
 use std::os::fd::AsRawFd;
 
 // After how many seconds of silence a peer is asked, how many pass between two questions, and how
@@ -12,10 +11,10 @@ const BETWEEN: i32 = 10;
 
 const PROBES: i32 = 3;
 
-/// Has the system probe the peers of all connections that the listener accepts from now on: they
-/// have what is set of it. A system that refuses it probes none.
-pub fn probe_peers(listener: &TcpListener) {
-    let fd = listener.as_raw_fd();
+/// Has the system probe the peer of a connection; of a listener, those of all connections that it
+/// accepts from now on, which have what is set of it. A system that refuses it probes none.
+pub fn probe_peers<S: AsRawFd>(socket: &S) {
+    let fd = socket.as_raw_fd();
     // `std` doesn't offer these options. Each call sets a number of the socket, and no memory.
     let _ = unsafe { c::setsockopt(fd, c::SOL_SOCKET, c::SO_KEEPALIVE, &number(1), 4) };
     let _ = unsafe { c::setsockopt(fd, c::IPPROTO_TCP, c::TCP_KEEPIDLE, &number(IDLE), 4) };

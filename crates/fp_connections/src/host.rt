@@ -1,4 +1,4 @@
-//! What a relay asks of the runtime.
+//! What a program with sockets asks of the runtime.
 
 use log::Log;
 use std::alloc::AllocGlobal;

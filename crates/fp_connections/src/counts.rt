@@ -1,9 +1,17 @@
 //! What happened to connections, as a status page shows it.
 
-use crate::inbox::Role;
 use std::sync::atomic::{AtomicU64, Ordering};
 
-/// What happened to the connections of some loops. All threads add to it.
+/// What a connection is for.
+#[derive(Debug, Drop, Clone, Copy, PartialEq, Eq)]
+pub enum Role {
+    /// Requests over HTTP/1.1.
+    Requests,
+    /// A hello, and frames.
+    Frames,
+}
+
+/// What happened to the connections of some threads. All threads add to it.
 #[derive(Drop)]
 pub struct Counts {
     requesters: AtomicU64,
@@ -40,18 +48,24 @@ pub struct Counted {
     pub frame_bytes: u64,
 }
 
-/// What happened in one turn of a loop.
+/// What one thread answered and sent, before it adds it to the counts that all share.
 #[derive(Debug, Drop, Clone, Copy, PartialEq, Eq)]
-pub(crate) struct Tally {
-    pub(crate) successes: u64,
-    pub(crate) redirections: u64,
-    pub(crate) client_faults: u64,
-    pub(crate) server_faults: u64,
-    pub(crate) frame_bytes: u64,
+pub struct Tally {
+    /// Requests that were answered by a status of 1xx or 2xx.
+    pub successes: u64,
+    /// By 3xx.
+    pub redirections: u64,
+    /// By 4xx.
+    pub client_faults: u64,
+    /// By 5xx.
+    pub server_faults: u64,
+    /// The bytes of frames that were sent.
+    pub frame_bytes: u64,
 }
 
 impl Tally {
-    pub(crate) fn new() -> Tally {
+    /// Nothing yet.
+    pub fn new() -> Tally {
         Tally {
             successes: 0,
             redirections: 0,
@@ -62,7 +76,7 @@ impl Tally {
     }
 
     /// A request was answered by this status.
-    pub(crate) fn answered(&mut self, status: u16) {
+    pub fn answered(&mut self, status: u16) {
         let count = match status {
             0..=299 => &mut self.successes,
             300..=399 => &mut self.redirections,
@@ -74,7 +88,7 @@ impl Tally {
 }
 
 impl Counts {
-    /// Counts of nothing yet. Loops and doors add to them, which share them by `Arc`.
+    /// Counts of nothing yet. Threads share them by `Arc`.
     pub fn new() -> Counts {
         Counts {
             requesters: AtomicU64::new(0),
@@ -89,7 +103,7 @@ impl Counts {
         }
     }
 
-    /// What was counted up to now. A loop adds to it once a turn.
+    /// What was counted up to now. What a thread has not added yet is missing.
     pub fn now(&self) -> Counted {
         Counted {
             requesters: read(&self.requesters),
@@ -105,28 +119,28 @@ impl Counts {
     }
 
     /// How many connections are open for this.
-    pub(crate) fn open(&self, role: Role) -> u64 {
+    pub fn open(&self, role: Role) -> u64 {
         read(self.of(role))
     }
 
     /// A connection was let in.
-    pub(crate) fn came(&self, role: Role) {
+    pub fn came(&self, role: Role) {
         add(self.of(role), 1);
         add(&self.accepted, 1);
     }
 
     /// A connection was refused.
-    pub(crate) fn was_refused(&self) {
+    pub fn was_refused(&self) {
         add(&self.refused, 1);
     }
 
     /// So many connections that were let in have ended.
-    pub(crate) fn left(&self, role: Role) {
+    pub fn left(&self, role: Role) {
         self.of(role).fetch_sub(1, Ordering::SeqCst);
     }
 
-    /// Adds what happened in a turn.
-    pub(crate) fn add(&self, tally: &Tally) {
+    /// Adds what a thread answered and sent.
+    pub fn add(&self, tally: &Tally) {
         add(&self.successes, tally.successes);
         add(&self.redirections, tally.redirections);
         add(&self.client_faults, tally.client_faults);
