@@ -1,5 +1,8 @@
 //! What happened to connections, as a status page shows it.
 
+ghost use Rattle.std.specs.Prelude.{◌≡◌, nat_le, nat_lt};
+ghost use Rattle.fp_connections.specs.Counts.{is_within, one_more};
+
 use std::sync::atomic::{AtomicU64, Ordering};
 
 /// What a connection is for.
@@ -65,7 +68,11 @@ pub struct Tally {
 
 impl Tally {
     /// Nothing yet.
-    pub fn new() -> Tally {
+    pub fn new() -> Tally
+        ensures answers { (result.successes ≡ 0) × (result.redirections ≡ 0)
+            × (result.client_faults ≡ 0) × (result.server_faults ≡ 0) }
+        ensures frames { result.frame_bytes ≡ 0 }
+    {
         Tally {
             successes: 0,
             redirections: 0,
@@ -76,14 +83,27 @@ impl Tally {
     }
 
     /// A request was answered by this status.
-    pub fn answered(&mut self, status: u16) {
-        let count = match status {
-            0..=299 => &mut self.successes,
-            300..=399 => &mut self.redirections,
-            400..=499 => &mut self.client_faults,
-            _ => &mut self.server_faults,
-        };
-        *count = count.saturating_add(1);
+    pub fn answered(&mut self, status: u16)
+        // One more of its class, and of no other.
+        ensures successes { self.new.successes
+            ≡ one_more (nat_lt status 300) self.old.successes }
+        ensures redirections { self.new.redirections
+            ≡ one_more (is_within 300 400 status) self.old.redirections }
+        ensures client_faults { self.new.client_faults
+            ≡ one_more (is_within 400 500 status) self.old.client_faults }
+        ensures server_faults { self.new.server_faults
+            ≡ one_more (nat_le 500 status) self.old.server_faults }
+        ensures frames { self.new.frame_bytes ≡ self.old.frame_bytes }
+    {
+        if status < 300 {
+            self.successes = self.successes.saturating_add(1);
+        } else if status < 400 {
+            self.redirections = self.redirections.saturating_add(1);
+        } else if status < 500 {
+            self.client_faults = self.client_faults.saturating_add(1);
+        } else {
+            self.server_faults = self.server_faults.saturating_add(1);
+        }
     }
 }
 
