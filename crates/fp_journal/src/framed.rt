@@ -46,7 +46,8 @@ impl Framed {
         ensures { IfOk result (λ f. f ≡ body.now) }
     {
         let len = body.len() as u32;
-        let mut bytes = Vec::from_slice(alloc, &len.to_be_bytes())?;
+        let mut bytes = Vec::with_capacity(alloc, body.len() + 5)?;
+        bytes.extend_from_slice(&len.to_be_bytes())?;
         bytes.extend_from_slice(body)?;
         bytes.push(0)?;
         Ok(Framed { bytes })

@@ -209,13 +209,22 @@ fn spelled(alloc: Global, first: u64, edits: &[Edit]) -> Result<Vec<u8>, AllocEr
         bytes.items ≡ encoding_of_batch
         (record { first = first; changes = changes_of edits.now })) }
 {
-    let mut out = Vec::new(alloc);
+    let mut out = Vec::with_capacity(alloc, room_for(edits))?;
     put_u64(&mut out, first)?;
     put_u16(&mut out, edits.len() as u16)?;
     for edit in edits {
         put_edit(&mut out, edit)?;
     }
     Ok(out)
+}
+
+// How many bytes the batch of these edits has, so that it is written without growing.
+fn room_for(edits: &[Edit]) -> usize {
+    let mut room = BATCH_HEAD;
+    for edit in edits {
+        room = room.saturating_add(encoded_len(edit));
+    }
+    room
 }
 
 /// How many edits a batch has, behind that first revision, and the place of the first. For who

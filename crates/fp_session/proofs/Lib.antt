@@ -8,3 +8,4 @@ pub mod Readings
 pub mod Endings
 pub mod RequestLemmas
 pub mod FirstLines
+pub mod Newlines

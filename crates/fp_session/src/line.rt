@@ -9,6 +9,7 @@ ghost use Rattle.fp_session.specs.Lines.{line_up_to_limit};
 ghost use Rattle.fp_session.specs.Progress.{AsksFor};
 
 use fp_edit::{Edit, LONGEST_LINE, LineFault, parse_line};
+use memchr::memchr;
 use std::alloc::{AllocError, Global};
 use std::marker::Model;
 
@@ -85,7 +86,7 @@ pub fn newline_in(bytes: &[u8]) -> Option<usize>
     ensures within { IfSome result (λ at. at < length bytes.now) }
     ensures counted { IfSome result (λ at. at + 1 < 2 ^ 64) }
 {
-    bytes.iter().position(|b| *b == b'\n')
+    memchr(b'\n', bytes)
 }
 
 fn is_space(byte: u8) -> bool
