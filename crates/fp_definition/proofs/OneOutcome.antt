@@ -4,9 +4,9 @@ use Rattle.std.specs.Prelude.{IfSome}
 use Rattle.serde_json.specs.Data.{Data}
 use Rattle.serde_json.specs.Find.{get}
 use Rattle.fp_operators.specs.Data as value
-use Rattle.fp_targeting.specs.Rule.{Rule}
-use Rattle.fp_targeting.specs.Means.{Means}
-use Rattle.fp_targeting.specs.Meaning.{meaning}
+use Rattle.fp_machine.specs.Rule.{Rule}
+use Rattle.fp_machine.specs.Means.{Means}
+use Rattle.fp_machine.specs.Meaning.{meaning}
 use Rattle.fp_definition.specs.Outcome.{by_rule, outcome_of}
 use Rattle.fp_definition.specs.Resolving.{Said, Resolves, ByRule, ByState, by_result}
 use Rattle.fp_definition.specs.Targeting.{rule_in}

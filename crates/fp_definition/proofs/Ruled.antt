@@ -8,7 +8,7 @@ use Rattle.fp_base.specs.declared.tree.Tree.{Tree}
 use Rattle.fp_base.specs.declared.tree.Tree.TheVariants.{Object}
 use Rattle.fp_base.proofs.Views.{view-Object}
 use Rattle.fp_targeting.specs.Compile.{verdict}
-use Rattle.fp_targeting.specs.Rule.{Rule}
+use Rattle.fp_machine.specs.Rule.{Rule}
 use Rattle.fp_definition.specs.Targeting.{rule_in}
 use Rattle.fp_definition.specs.Valid.{targeting_tests}
 

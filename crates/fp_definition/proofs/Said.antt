@@ -16,8 +16,8 @@ use Rattle.fp_base.specs.Sorted.{IsBelow, IsSorted}
 use Rattle.fp_base.specs.Tests.{first_failed}
 use Rattle.fp_base.proofs.Inside.{ordered_get}
 use Rattle.fp_operators.specs.Data as value
-use Rattle.fp_targeting.specs.Rule.{Rule}
-use Rattle.fp_targeting.specs.Means.{Means}
+use Rattle.fp_machine.specs.Rule.{Rule}
+use Rattle.fp_machine.specs.Means.{Means}
 use Rattle.fp_targeting.specs.RuleData.{rule_data}
 use Rattle.fp_definition.specs.Choice.{MeetsTests}
 use Rattle.fp_definition.specs.Resolving.{Said, Spelling, Resolves, Spells, Tells, TellsItself, by_default, by_result}

@@ -4,7 +4,7 @@ use Rattle.std.specs.Prelude.{IfSome, Err}
 use Rattle.serde_json.specs.Data.{Data}
 use Rattle.serde_json.specs.Find.{get}
 use Rattle.fp_targeting.specs.Moment.{IsTimeless as RuleIsTimeless}
-use Rattle.fp_targeting.specs.Rule.{Rule}
+use Rattle.fp_machine.specs.Rule.{Rule}
 use Rattle.fp_targeting.specs.RuleData.{rule_data}
 use Rattle.fp_definition.specs.Outcome.{IsTimeless, by_rule, outcome_of}
 use Rattle.fp_definition.specs.Resolving.{by_result, is_disabled}

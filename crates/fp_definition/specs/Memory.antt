@@ -3,8 +3,8 @@ use Rattle.std.specs.Prelude.{Bool, false, codes, IsSome, Option, Some, None}
 use Rattle.serde_json.specs.Data.{Data}
 use Rattle.serde_json.specs.Find.{get}
 use Rattle.fp_definition.specs.Targeting.{rule_in}
-use Rattle.fp_targeting.specs.Memory.{needs_memory}
-use Rattle.fp_targeting.specs.Rule.{Rule}
+use Rattle.fp_machine.specs.Memory.{needs_memory}
+use Rattle.fp_machine.specs.Rule.{Rule}
 
 -- there is a rule, and it makes a list or a text, or reads versions
 abbrev pub rule_needs_memory : Option Rule → Bool

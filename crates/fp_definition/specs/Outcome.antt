@@ -3,8 +3,8 @@ use Rattle.std.specs.Prelude.{◌≡◌, ℕ, List, codes, if◌then◌else◌, 
 use Rattle.serde_json.specs.Data.{Data}
 use Rattle.serde_json.specs.Find.{get}
 use Rattle.fp_operators.specs.Data as value
-use Rattle.fp_targeting.specs.Rule.{Rule}
-use Rattle.fp_targeting.specs.Meaning.{meaning}
+use Rattle.fp_machine.specs.Rule.{Rule}
+use Rattle.fp_machine.specs.Meaning.{meaning}
 use Rattle.fp_targeting.specs.RuleData.{rule_data}
 use Rattle.fp_definition.specs.Targeting.{rule_in}
 use Rattle.fp_definition.specs.Resolving.{Said, by_default, by_result, is_disabled}

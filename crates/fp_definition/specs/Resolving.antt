@@ -6,8 +6,8 @@ use Rattle.serde_json.specs.Find.{get}
 use Rattle.serde_json.specs.Written.{compact_text}
 use Rattle.fp_base.specs.Json.{json_of}
 use Rattle.fp_operators.specs.Data as value
-use Rattle.fp_targeting.specs.Rule.{Rule}
-use Rattle.fp_targeting.specs.Means.{Means}
+use Rattle.fp_machine.specs.Rule.{Rule}
+use Rattle.fp_machine.specs.Means.{Means}
 use Rattle.fp_targeting.specs.RuleData.{rule_data}
 use Rattle.fp_definition.specs.Targeting.{rule_in}
 use Rattle.fp_definition.specs.declared.resolving.Reason.{Reason}

@@ -2,7 +2,7 @@
 use Rattle.std.specs.Prelude.{Option, Some, None}
 use Rattle.std.specs.Result.{result_ok}
 use Rattle.serde_json.specs.Data.{Data, object, no_members, member}
-use Rattle.fp_targeting.specs.Rule.{Rule}
+use Rattle.fp_machine.specs.Rule.{Rule}
 use Rattle.fp_targeting.specs.Compile.{verdict}
 
 -- the object without members writes none

@@ -11,7 +11,7 @@ use Rattle.fp_base.specs.Tests.{first_failed}
 use Rattle.fp_base.specs.Whole.{is_whole}
 use Rattle.fp_targeting.specs.Compile as rules
 use Rattle.fp_targeting.specs.Compile.{verdict}
-use Rattle.fp_targeting.specs.Rule.{Rule}
+use Rattle.fp_machine.specs.Rule.{Rule}
 use Rattle.fp_definition.specs.Kinds.{one_kind, all_scalars}
 use Rattle.fp_definition.specs.Numbers.{DEEPEST_DEFINITION}
 use Rattle.fp_definition.specs.Numbers.{LONGEST_DEFINITION}

@@ -19,9 +19,9 @@ ghost use Rattle.fp_definition.specs.Targeting.{rule_in};
 ghost use Rattle.fp_definition.specs.declared.resolving.EvalFault.TheVariants.{Memory, NoVariant};
 ghost use Rattle.fp_operators.specs.Data as values;
 ghost use Rattle.fp_operators.specs.View.{view as datum_view};
-ghost use Rattle.fp_targeting.specs.Meaning.{meaning};
-ghost use Rattle.fp_targeting.specs.Means.{Means};
-ghost use Rattle.fp_targeting.specs.Memory.{needs_memory};
+ghost use Rattle.fp_machine.specs.Meaning.{meaning};
+ghost use Rattle.fp_machine.specs.Means.{Means};
+ghost use Rattle.fp_machine.specs.Memory.{needs_memory};
 ghost use Rattle.fp_targeting.specs.RuleData.{IsOfContext, rule_data};
 
 use crate::definition::Definition;

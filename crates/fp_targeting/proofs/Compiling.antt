@@ -8,21 +8,21 @@ use Rattle.serde_json.specs.Data.{Items, no_items, item}
 use Rattle.fp_base.specs.TreeView.{tree_items}
 use Rattle.fp_base.specs.declared.tree.Tree.{Tree}
 use Rattle.fp_targeting.specs.Compile.{first_unknown, items_unknown, one_more, operator_rule, rules_from, arguments_of}
-use Rattle.fp_targeting.specs.Constant.{all_literal}
+use Rattle.fp_targeting.specs.Literal.{all_literal}
 use Rattle.fp_targeting.specs.Compiles.{NoRule, Compiles, CompileAll, Applies}
 use Rattle.fp_targeting.specs.Emits.{Pushed, Adds, Keeps, Decides}
-use Rattle.fp_targeting.specs.Operators.{operator_of, takes, allows, count_of}
-use Rattle.fp_targeting.specs.Rule as tree
-use Rattle.fp_targeting.specs.Rule.{Rule, Rules, no_rules, rule, apply}
+use Rattle.fp_machine.specs.Operators.{operator_of, takes, allows, count_of}
+use Rattle.fp_machine.specs.Rule as tree
+use Rattle.fp_machine.specs.Rule.{Rule, Rules, no_rules, rule, apply}
 use Rattle.fp_targeting.specs.Strict.{is_strict, stops, looks_at_results}
-use Rattle.fp_targeting.specs.View.{rules_of}
-use Rattle.fp_targeting.specs.declared.code.Code.{Code}
-use Rattle.fp_targeting.specs.declared.operator.BinaryOperator.{BinaryOperator}
-use Rattle.fp_targeting.specs.declared.operator.ChainOperator.{ChainOperator}
-use Rattle.fp_targeting.specs.declared.operator.Operator.{Operator}
-use Rattle.fp_targeting.specs.declared.operator.UnaryOperator.{UnaryOperator}
-use Rattle.fp_targeting.specs.declared.code.Step.TheVariants.{Join, Collect, Wrap, End}
-use Rattle.fp_targeting.specs.declared.operator.Operator.TheVariants.{If, And, Or, Var, Cat, SemVer, Fractional, Unary, Binary, Chain}
+use Rattle.fp_machine.specs.View.{rules_of}
+use Rattle.fp_machine.specs.declared.code.Code.{Code}
+use Rattle.fp_machine.specs.declared.operator.BinaryOperator.{BinaryOperator}
+use Rattle.fp_machine.specs.declared.operator.ChainOperator.{ChainOperator}
+use Rattle.fp_machine.specs.declared.operator.Operator.{Operator}
+use Rattle.fp_machine.specs.declared.operator.UnaryOperator.{UnaryOperator}
+use Rattle.fp_machine.specs.declared.code.Step.TheVariants.{Join, Collect, Wrap, End}
+use Rattle.fp_machine.specs.declared.operator.Operator.TheVariants.{If, And, Or, Var, Cat, SemVer, Fractional, Unary, Binary, Chain}
 use Rattle.fp_targeting.proofs.Written.{literals-written}
 use Rattle.fp_targeting.proofs.Deciding.{added-decided}
 use Rattle.fp_targeting.proofs.Emitting.{added-join, added-collect, added-wrap}

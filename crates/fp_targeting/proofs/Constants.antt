@@ -7,12 +7,13 @@ use Rattle.fp_operators.specs.Data.{Data, null, boolean, whole, text, list, obje
 use Rattle.fp_operators.specs.FromJson.{data_of, items_from, whole_or_null}
 use Rattle.fp_operators.specs.View.{items_of}
 use Rattle.fp_targeting.specs.Compile.{first_of, first_unknown, items_unknown, one_more, rule_of, rules_from}
-use Rattle.fp_targeting.specs.Constant.{constant, constants, is_literal, all_literal}
-use Rattle.fp_targeting.specs.Meaning.{meaning, meanings}
-use Rattle.fp_targeting.specs.Operators.{well_formed, all_well_formed}
-use Rattle.fp_targeting.specs.Rule as tree
-use Rattle.fp_targeting.specs.Rule.{Rule, no_rules, rule}
-use Rattle.fp_targeting.specs.View.{rules_of}
+use Rattle.fp_machine.specs.Constant.{constant, constants}
+use Rattle.fp_targeting.specs.Literal.{is_literal, all_literal}
+use Rattle.fp_machine.specs.Meaning.{meaning, meanings}
+use Rattle.fp_machine.specs.Operators.{well_formed, all_well_formed}
+use Rattle.fp_machine.specs.Rule as tree
+use Rattle.fp_machine.specs.Rule.{Rule, no_rules, rule}
+use Rattle.fp_machine.specs.View.{rules_of}
 
 mutual
   pub constant-formed : (d : Data) → well_formed (constant d) ≡ true

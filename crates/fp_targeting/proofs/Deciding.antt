@@ -5,22 +5,22 @@ use Rattle.fp_operators.specs.Data.{Data, null}
 use Rattle.fp_operators.specs.Path.{found_or, named_by}
 use Rattle.fp_operators.specs.Truth.{truth}
 use Rattle.fp_targeting.specs.Emits.{Pushed, Adds, Decides, Finds}
-use Rattle.fp_targeting.specs.Machine.{Env, run, found_at}
-use Rattle.fp_targeting.specs.Meaning.{meaning, meanings, value_at, value_of_operator, value_behind_true, first_false, first_true}
-use Rattle.fp_targeting.specs.Reading.{read, in_order}
-use Rattle.fp_targeting.specs.Rule as tree
-use Rattle.fp_targeting.specs.Rule.{Rule, Rules, no_rules, rule}
-use Rattle.fp_targeting.specs.Stack.{onto}
+use Rattle.fp_machine.specs.Machine.{Env, run, found_at}
+use Rattle.fp_machine.specs.Meaning.{meaning, meanings, value_at, value_of_operator, value_behind_true, first_false, first_true}
+use Rattle.fp_machine.specs.Reading.{read, in_order}
+use Rattle.fp_machine.specs.Rule as tree
+use Rattle.fp_machine.specs.Rule.{Rule, Rules, no_rules, rule}
+use Rattle.fp_machine.specs.Stack.{onto}
 use Rattle.fp_targeting.specs.Strict.{stops, skip_past, looks_at_results}
-use Rattle.fp_targeting.specs.View.{rules_of}
-use Rattle.fp_targeting.specs.declared.code.Code.{Code}
-use Rattle.fp_targeting.specs.declared.code.Step.{Step}
-use Rattle.fp_targeting.specs.declared.operator.Operator.{Operator}
-use Rattle.fp_targeting.specs.declared.code.Step.TheVariants.{LoadNull, Skip, SkipIfFalse, SkipIfTrue, Find, End}
-use Rattle.fp_targeting.specs.declared.operator.Operator.TheVariants.{If, And, Or, Var, Cat, SemVer, Fractional, Unary, Binary, Chain}
+use Rattle.fp_machine.specs.View.{rules_of}
+use Rattle.fp_machine.specs.declared.code.Code.{Code}
+use Rattle.fp_machine.specs.declared.code.Step.{Step}
+use Rattle.fp_machine.specs.declared.operator.Operator.{Operator}
+use Rattle.fp_machine.specs.declared.code.Step.TheVariants.{LoadNull, Skip, SkipIfFalse, SkipIfTrue, Find, End}
+use Rattle.fp_machine.specs.declared.operator.Operator.TheVariants.{If, And, Or, Var, Cat, SemVer, Fractional, Unary, Binary, Chain}
 use Rattle.fp_targeting.proofs.Frugal.{pushed-frugal, first-none, others-none, first-deep, others-deep}
 use Rattle.fp_targeting.proofs.Emitting.{grows-trans, grows-skip, pushed-has, pushed-few, pushed-grows, pushed-run, pushed-read, all-last}
-use Rattle.fp_targeting.proofs.OneResult.{either_way}
+use Rattle.fp_machine.proofs.OneResult.{either_way}
 
 value-results : (o : Operator) (root : Data) (rs : Rules) (ds : List Data) → looks_at_results o ≡ true →
     value_of_operator o root ds ≡ value_at o root rs ds

@@ -9,27 +9,28 @@ use Rattle.fp_operators.specs.Text.{concatenation}
 use Rattle.fp_operators.specs.View.{view}
 use Rattle.fp_targeting.specs.Compiles.{IsCompiled}
 use Rattle.fp_targeting.specs.Emits.{Has, Grows, Pushed, Raised, IsOperand, Adds, AddsAlone, KeepsOne, Keeps}
-use Rattle.fp_targeting.specs.Frugal.{IsFrugal}
-use Rattle.fp_targeting.specs.Machine.{Env, Turn, run, look, left_by, list_of}
-use Rattle.fp_targeting.specs.Meaning.{meaning, meanings}
-use Rattle.fp_targeting.specs.Memory.{are_literals}
+use Rattle.fp_machine.specs.Frugal.{IsFrugal}
+use Rattle.fp_machine.specs.Machine.{Env, Turn, run, look, left_by, list_of}
+use Rattle.fp_machine.specs.Meaning.{meaning, meanings}
+use Rattle.fp_machine.specs.Memory.{are_literals}
 use Rattle.fp_targeting.specs.Places.{places}
-use Rattle.fp_targeting.specs.Reading.{reads, read, in_order, with_last}
-use Rattle.fp_targeting.specs.Rule as tree
-use Rattle.fp_targeting.specs.Rule.{Rule, Rules, no_rules, rule}
-use Rattle.fp_targeting.specs.Stack.{onto, off}
-use Rattle.fp_targeting.specs.View.{rules_of}
-use Rattle.fp_targeting.specs.declared.code.Code.{Code}
-use Rattle.fp_targeting.specs.declared.code.Operand.{Operand}
-use Rattle.fp_targeting.specs.declared.code.Step.{Step}
-use Rattle.fp_targeting.specs.declared.code.Step.TheVariants.{Load, Keep, KeepOf, Join, Collect, Wrap}
-use Rattle.fp_targeting.specs.declared.operator.Operator.{Operator}
-use Rattle.fp_targeting.specs.declared.operator.Operator.TheVariants.{Cat}
-use Rattle.fp_targeting.proofs.Frugal.{pushed-frugal, operand-frugal, not-false, true-false}
-use Rattle.fp_targeting.proofs.Machines.{skip-over, of_all}
-use Rattle.fp_targeting.proofs.OneResult.{length-meanings}
+use Rattle.fp_machine.specs.Reading.{reads, read, in_order, with_last}
+use Rattle.fp_machine.specs.Rule as tree
+use Rattle.fp_machine.specs.Rule.{Rule, Rules, no_rules, rule}
+use Rattle.fp_machine.specs.Stack.{onto, off}
+use Rattle.fp_machine.specs.View.{rules_of}
+use Rattle.fp_machine.specs.declared.code.Code.{Code}
+use Rattle.fp_machine.specs.declared.code.Operand.{Operand}
+use Rattle.fp_machine.specs.declared.code.Step.{Step}
+use Rattle.fp_machine.specs.declared.code.Step.TheVariants.{Load, Keep, KeepOf, Join, Collect, Wrap}
+use Rattle.fp_machine.specs.declared.operator.Operator.{Operator}
+use Rattle.fp_machine.specs.declared.operator.Operator.TheVariants.{Cat}
+use Rattle.fp_targeting.proofs.Frugal.{pushed-frugal, operand-frugal, not-false}
+use Rattle.fp_machine.proofs.Frugal.{true-false}
+use Rattle.fp_machine.proofs.Machines.{skip-over, of_all}
+use Rattle.fp_machine.proofs.OneResult.{length-meanings}
 use Rattle.fp_targeting.proofs.Parts.{count_of-rules_of}
-use Rattle.fp_targeting.proofs.Stacks.{onto-append, onto-last, off-onto}
+use Rattle.fp_machine.proofs.Stacks.{onto-append, onto-last, off-onto}
 
 -- a rule takes a place at least
 pub one-place : (r : Rule) → 1 ≤ places r

@@ -9,24 +9,26 @@ use Rattle.fp_operators.specs.Data.{Data, null}
 use Rattle.fp_operators.specs.View.{view}
 use Rattle.fp_targeting.specs.Compile.{one_more, operator_rule, rule_of, rules_from}
 use Rattle.fp_targeting.specs.Compiles.{IsCompiled}
-use Rattle.fp_targeting.specs.Emits.{Has, Adds, IsSound}
-use Rattle.fp_targeting.specs.Frugal.{any_asks, IsFrugal}
-use Rattle.fp_targeting.specs.Memory.{needs_memory}
-use Rattle.fp_targeting.specs.Machine.{Env, run}
-use Rattle.fp_targeting.specs.Meaning.{meaning}
+use Rattle.fp_targeting.specs.Emits.{Has, Adds}
+use Rattle.fp_machine.specs.Sound.{IsSound}
+use Rattle.fp_machine.specs.Frugal.{any_asks, IsFrugal}
+use Rattle.fp_machine.specs.Memory.{needs_memory}
+use Rattle.fp_machine.specs.Machine.{Env, run}
+use Rattle.fp_machine.specs.Meaning.{meaning}
 use Rattle.fp_targeting.specs.Nesting.{nesting}
-use Rattle.fp_targeting.specs.Operators.{operator_of, allows, well_formed, all_well_formed}
+use Rattle.fp_machine.specs.Operators.{operator_of, allows, well_formed, all_well_formed}
 use Rattle.fp_targeting.specs.Places.{places}
-use Rattle.fp_targeting.specs.Reading.{read, env_of, in_order, last_or, rule_of_code}
-use Rattle.fp_targeting.specs.Rule as tree
-use Rattle.fp_targeting.specs.Rule.{Rule, Rules, no_rules, rule}
-use Rattle.fp_targeting.specs.Stack.{onto}
-use Rattle.fp_targeting.specs.View.{rules_of}
-use Rattle.fp_targeting.specs.declared.operator.Operator.{Operator}
-use Rattle.fp_targeting.specs.declared.code.Code.{Code}
-use Rattle.fp_targeting.specs.declared.code.Step.{Step}
+use Rattle.fp_machine.specs.Reading.{read, env_of, in_order, last_or, rule_of_code}
+use Rattle.fp_machine.specs.Rule as tree
+use Rattle.fp_machine.specs.Rule.{Rule, Rules, no_rules, rule}
+use Rattle.fp_machine.specs.Stack.{onto}
+use Rattle.fp_machine.specs.View.{rules_of}
+use Rattle.fp_machine.specs.declared.operator.Operator.{Operator}
+use Rattle.fp_machine.specs.declared.code.Code.{Code}
+use Rattle.fp_machine.specs.declared.code.Step.{Step}
 use Rattle.fp_operators.specs.declared.datum.Datum.{Datum}
-use Rattle.fp_targeting.specs.Numbers.{DEEPEST_RULE, MOST_RULE_VALUES}
+use Rattle.fp_machine.specs.Numbers.{DEEPEST_RULE}
+use Rattle.fp_targeting.specs.Numbers.{MOST_RULE_VALUES}
 use Rattle.fp_targeting.proofs.Nested.{rule_of-nesting}
 use Rattle.fp_targeting.proofs.Placing.{rule_of-places}
 

@@ -1,45 +1,30 @@
 -- Code that asks for no memory, where the rule needs none.
-use Rattle.std.proofs.Common.{◌≡◌, ◌<◌, ◌≤◌, ◌+◌, ℕ, zero, suc, List, [], ◌∷◌, ◌++◌, length, get_or, Bool, true, false}
-use Rattle.std.proofs.Common.{not, ◌||◌, Result, Ok, Err, IfErr, refl, ap, ◌∙◌, arith}
+use Rattle.std.proofs.Common.{◌≡◌, ◌≤◌, ◌+◌, ℕ, List, [], ◌∷◌, ◌++◌, Bool, true, false}
+use Rattle.std.proofs.Common.{not, refl, ap, ◌∙◌, arith}
 use Rattle.fp_targeting.specs.Emits.{Pushed, Raised, IsOperand}
-use Rattle.fp_targeting.specs.Frugal.{asks, any_asks, is_sem_ver, IsFrugal}
-use Rattle.fp_targeting.specs.Memory.{needs_memory, any_needs, itself_needs}
+use Rattle.fp_machine.specs.Frugal.{asks, any_asks, is_sem_ver, IsFrugal}
+use Rattle.fp_machine.specs.Memory.{needs_memory, any_needs, itself_needs}
 use Rattle.fp_targeting.specs.Nesting.{nesting}
-use Rattle.fp_targeting.specs.Rule.{Rule, Rules, apply, no_rules, rule}
+use Rattle.fp_machine.specs.Rule.{Rule, Rules, apply, no_rules, rule}
 use Rattle.fp_targeting.specs.Strict.{is_strict}
-use Rattle.fp_targeting.specs.declared.code.Code.{Code}
-use Rattle.fp_targeting.specs.declared.code.Operand.{Operand}
-use Rattle.fp_targeting.specs.declared.code.Step.{Step}
-use Rattle.fp_targeting.specs.declared.code.Step.TheVariants.{Keep}
-use Rattle.fp_targeting.specs.declared.operator.Operator.{Operator}
-use Rattle.fp_targeting.specs.declared.operator.Operator.TheVariants.{If, And, Or, Var, Cat, SemVer, Fractional, Unary, Binary, Chain}
-use Rattle.fp_targeting.specs.Numbers.{DEEPEST_RULE}
-
-pub neither : (a b : Bool) → (a || b) ≡ false → (a ≡ false) × (b ≡ false)
-neither true b h = absurd (cc)
-neither false b h = (refl, h)
+use Rattle.fp_machine.specs.declared.code.Code.{Code}
+use Rattle.fp_machine.specs.declared.code.Operand.{Operand}
+use Rattle.fp_machine.specs.declared.code.Step.{Step}
+use Rattle.fp_machine.specs.declared.code.Step.TheVariants.{Keep}
+use Rattle.fp_machine.specs.declared.operator.Operator.{Operator}
+use Rattle.fp_machine.specs.declared.operator.Operator.TheVariants.{If, And, Or, Var, Cat, SemVer, Fractional, Unary, Binary, Chain}
+use Rattle.fp_machine.specs.Numbers.{DEEPEST_RULE}
+use Rattle.fp_machine.proofs.Frugal.{neither}
 
 pub not-false : (b : Bool) → not b ≡ false → b ≡ true
 not-false true h = refl
 not-false false h = absurd (cc)
-
-pub true-false : {b : Bool} → b ≡ true → b ≡ false → ⊥
-true-false h g = cc
-
-pub any-err : {A B : Type 0} {P : Type 0} (r : Result A B) → P → IfErr r (λ e. P)
-any-err (Ok x) p = tt
-any-err (Err e) p = p
 
 -- ---- instructions
 
 asks-last : (cs : List Step) (c : Step) → any_asks cs ≡ false → asks c ≡ false → any_asks (cs ++ c ∷ []) ≡ false
 asks-last [] c h g = rw g refl
 asks-last (d ∷ cs) c h g = let n = neither (asks d) (any_asks cs) h in rw (n.0, asks-last cs c n.1 g) refl
-
-pub asks-none : (cs : List Step) (n : ℕ) (c : Step) → any_asks cs ≡ false → n < length cs → c ≡ get_or cs n c → asks c ≡ false
-asks-none [] n c h within is = absurd (omega (arith, within))
-asks-none (d ∷ cs) zero c h within is = ap asks is ∙ (neither (asks d) (any_asks cs) h).0
-asks-none (d ∷ cs) (suc n) c h within is = asks-none cs n c (neither (asks d) (any_asks cs) h).1 (omega (arith, within)) is
 
 pub pushed-frugal : {c : Step} {a b : Code} → Pushed c a b → asks c ≡ false → IsFrugal a → IsFrugal b
 pushed-frugal {c = c} {a = a} p none f = record {
@@ -59,12 +44,6 @@ as-frugal steps room f = record { room = omega (arith, room, f.room); steps = ap
 
 pub operand-frugal : {o : Operand} {r : Rule} {a b : Code} → IsOperand o r a b → IsFrugal a → IsFrugal b
 operand-frugal x f = as-frugal x.steps x.room f
-
--- where an instruction asks, the rule needs memory
-pub asked : (needs : Bool) {a : Code} → (needs ≡ false → IsFrugal a) → (n : ℕ) (c : Step) →
-    n < length a.steps.items → c ≡ get_or a.steps.items n c → asks c ≡ true → needs ≡ true
-asked true f n c within is asking = refl
-asked false {a = a} f n c within is asking = absurd (true-false asking (asks-none a.steps.items n c (f refl).steps within is))
 
 -- ---- operators and their arguments
 

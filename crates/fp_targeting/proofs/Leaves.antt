@@ -16,19 +16,20 @@ use Rattle.fp_operators.specs.View.{view}
 use Rattle.fp_operators.specs.declared.datum.Datum.{Datum}
 use Rattle.fp_targeting.specs.Compile.{first_unknown, items_unknown, rule_of, rules_from}
 use Rattle.fp_targeting.specs.Compiles.{IsCompiled, AreCompiled, is_plain}
-use Rattle.fp_targeting.specs.Constant.{constant, whole_in}
+use Rattle.fp_machine.specs.Constant.{constant}
+use Rattle.fp_targeting.specs.Literal.{whole_in}
 use Rattle.fp_targeting.specs.Emits.{Has, Pushed, Stands, IsPlaced, IsOperand, Adds, Finds}
-use Rattle.fp_targeting.specs.Machine.{Env, Turn, text_bytes, run, found_at}
-use Rattle.fp_targeting.specs.Operators.{operator_of}
-use Rattle.fp_targeting.specs.Reading.{in_order, reads, read}
-use Rattle.fp_targeting.specs.Rule as tree
-use Rattle.fp_targeting.specs.Rule.{Rule, Rules, no_rules, rule}
-use Rattle.fp_targeting.specs.Stack.{onto}
-use Rattle.fp_targeting.specs.declared.code.Code.{Code}
-use Rattle.fp_targeting.specs.declared.operator.Operator.{Operator}
-use Rattle.fp_targeting.specs.declared.code.Operand.TheVariants.{Constant, Variable}
-use Rattle.fp_targeting.specs.declared.code.Step.TheVariants.{LoadWhole, FindVariable}
-use Rattle.fp_targeting.specs.declared.operator.Operator.TheVariants.{Var}
+use Rattle.fp_machine.specs.Machine.{Env, Turn, text_bytes, run, found_at}
+use Rattle.fp_machine.specs.Operators.{operator_of}
+use Rattle.fp_machine.specs.Reading.{in_order, reads, read}
+use Rattle.fp_machine.specs.Rule as tree
+use Rattle.fp_machine.specs.Rule.{Rule, Rules, no_rules, rule}
+use Rattle.fp_machine.specs.Stack.{onto}
+use Rattle.fp_machine.specs.declared.code.Code.{Code}
+use Rattle.fp_machine.specs.declared.operator.Operator.{Operator}
+use Rattle.fp_machine.specs.declared.code.Operand.TheVariants.{Constant, Variable}
+use Rattle.fp_machine.specs.declared.code.Step.TheVariants.{LoadWhole, FindVariable}
+use Rattle.fp_machine.specs.declared.operator.Operator.TheVariants.{Var}
 use Rattle.fp_targeting.proofs.Written.{written}
 use Rattle.fp_targeting.proofs.Constants.{meaning-constant, items_unknown-literals, rule_of-literal, rule_of-literals}
 use Rattle.fp_targeting.proofs.Frugal.{pushed-frugal, as-frugal}

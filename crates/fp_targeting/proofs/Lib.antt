@@ -1,12 +1,9 @@
 pub mod Parts
-pub mod OneResult
 pub mod Turning
 pub mod Rooms
 pub mod MeaningLaws
 pub mod Members
 pub mod Constants
-pub mod Stacks
-pub mod Machines
 pub mod Frugal
 pub mod Tables
 pub mod Emitting

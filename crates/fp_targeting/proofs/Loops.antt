@@ -5,7 +5,7 @@ use Rattle.fp_base.specs.TreeView.{tree_view, tree_items}
 use Rattle.fp_base.specs.declared.tree.Tree.{Tree}
 use Rattle.fp_base.proofs.Turns.{drop-here}
 use Rattle.fp_targeting.specs.Compiles.{IsCompiled, AreCompiled, NoRule, NoRules}
-use Rattle.fp_targeting.specs.Rule.{Rule}
+use Rattle.fp_machine.specs.Rule.{Rule}
 use Rattle.fp_targeting.proofs.Parts.{no-first, no-others, compiled-none, both-compiled, in-front, rules_from-length}
 
 pub no-rules-drop : (i : ℕ) (ts : List Tree) → NoRules (tree_items (drop i ts)) → NoRules (tree_items ts)

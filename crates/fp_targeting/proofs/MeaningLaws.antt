@@ -2,16 +2,16 @@
 use Rattle.std.proofs.Common.{◌≡◌, List, [], ◌∷◌, Bool, true, false, not, Some, refl, sym, ap, ◌∙◌}
 use Rattle.fp_operators.specs.Data.{Data, boolean}
 use Rattle.fp_operators.specs.Truth.{truth}
-use Rattle.fp_targeting.specs.Rule.{Rule, Rules, apply, no_rules, rule}
-use Rattle.fp_targeting.specs.Operators.{result_of}
-use Rattle.fp_targeting.specs.Means as is
-use Rattle.fp_targeting.specs.Means.{Means, AllMean}
+use Rattle.fp_machine.specs.Rule.{Rule, Rules, apply, no_rules, rule}
+use Rattle.fp_machine.specs.Operators.{result_of}
+use Rattle.fp_machine.specs.Means as is
+use Rattle.fp_machine.specs.Means.{Means, AllMean}
 use Rattle.fp_targeting.specs.Laws.{TruthIsOfTheResult, NotTwiceIsTruth, DataUnnamedAreUnused, looks_at_nothing}
 use Rattle.fp_targeting.specs.Laws.{names_nothing, all_name_nothing}
-use Rattle.fp_targeting.specs.declared.operator.Operator.{Operator}
-use Rattle.fp_targeting.specs.declared.operator.Operator.TheVariants.{Var, Unary}
-use Rattle.fp_targeting.specs.declared.operator.UnaryOperator.{UnaryOperator}
-use Rattle.fp_targeting.proofs.OneResult.{both}
+use Rattle.fp_machine.specs.declared.operator.Operator.{Operator}
+use Rattle.fp_machine.specs.declared.operator.Operator.TheVariants.{Var, Unary}
+use Rattle.fp_machine.specs.declared.operator.UnaryOperator.{UnaryOperator}
+use Rattle.fp_machine.proofs.OneResult.{both}
 
 -- an operator of one argument looks at that argument's result
 unary_of : {o : UnaryOperator} {r : Rule} {d x : Data} → Means (apply (Unary o) (rule r no_rules)) d x → (y : Data) ×

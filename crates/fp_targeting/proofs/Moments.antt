@@ -2,9 +2,6 @@
 use Rattle.std.proofs.Common.{◌≡◌, ◌≢◌, ◌<◌, ◌==◌, ℕ, zero, suc, List, [], ◌∷◌, ◌++◌, length, get_or, Bool, true, false}
 use Rattle.std.proofs.Common.{not, ◌&&◌, ◌||◌, Option, Some, None, refl, sym, ap, ◌∙◌, subst, ne_eqb, Ordering, is_eq}
 use Rattle.std.proofs.Common.{Less, Equal, Greater}
-use Rattle.std.specs.List.{All as Every}
-use Rattle.std.proofs.lemmas.List.Splits.{slice_split_at, slice_split_none}
-use Rattle.std.proofs.lemmas.List.Elements.{All-from_get_or}
 use Rattle.std.specs.Prelude.{bytes_eq, codes, option_and_then, option_map, if◌then◌else◌}
 use Rattle.std.specs.Ordering.{nat_cmp}
 use Rattle.std.specs.Cmp.Lexicographic.{slice_cmp}
@@ -13,25 +10,23 @@ use Rattle.std.proofs.lemmas.Slice.Eq.{bytes_eq-Decides}
 use Rattle.fp_operators.specs.Data.{Data, null, boolean, whole, text, list, object, Members, no_members, member, put}
 use Rattle.fp_operators.specs.FromJson.{data_of}
 use Rattle.fp_operators.specs.Path.{parts, member_at, step_to, follow, at_text, found_or}
-use Rattle.fp_targeting.specs.Machine.{Env, path_at, look, act, run, Turn}
+use Rattle.fp_machine.specs.Machine.{Env, path_at, look, act, run, Turn}
 use Rattle.fp_targeting.specs.RuleData.{flag_data, with_member, rule_data}
-use Rattle.fp_targeting.specs.Emits.{IsSound}
-use Rattle.fp_targeting.specs.Reading.{env_of, in_order, rule_of_code}
-use Rattle.fp_targeting.specs.Stack.{onto}
-use Rattle.fp_targeting.specs.declared.code.Code.{Code}
-use Rattle.fp_targeting.specs.Split.{own_key, flag_key, targeting_key}
-use Rattle.fp_targeting.specs.declared.code.Operand.{Operand}
-use Rattle.fp_targeting.specs.declared.code.Operand.TheVariants.{Constant, Variable, All, AtHand}
-use Rattle.fp_targeting.specs.declared.code.Step.{Step}
-use Rattle.fp_targeting.specs.declared.code.Step.TheVariants.{Load, LoadNull, LoadWhole, Keep, KeepOf, Skip}
-use Rattle.fp_targeting.specs.declared.code.Step.TheVariants.{SkipIfFalse, SkipIfTrue, Find, FindVariable, One, Two}
-use Rattle.fp_targeting.specs.declared.code.Step.TheVariants.{Three, Second, Third, Join, Collect, Split, SplitByOwnKey}
-use Rattle.fp_targeting.specs.declared.code.Step.TheVariants.{Wrap, End}
-use Rattle.fp_targeting.specs.Moment.{IsTimeless, is_of_the_moment, parts_read, path_reads, operand_reads, step_reads, any_reads}
-
-neither : (a b : Bool) → (a || b) ≡ false → (a ≡ false) × (b ≡ false)
-neither true b h = absurd (cc)
-neither false b h = (refl, h)
+use Rattle.fp_machine.specs.Sound.{IsSound}
+use Rattle.fp_machine.specs.Reading.{env_of, in_order, rule_of_code}
+use Rattle.fp_machine.specs.Stack.{onto}
+use Rattle.fp_machine.specs.declared.code.Code.{Code}
+use Rattle.fp_machine.specs.Split.{own_key, flag_key, targeting_key}
+use Rattle.fp_machine.specs.declared.code.Operand.{Operand}
+use Rattle.fp_machine.specs.declared.code.Operand.TheVariants.{Constant, Variable, All, AtHand}
+use Rattle.fp_machine.specs.declared.code.Step.{Step}
+use Rattle.fp_machine.specs.declared.code.Step.TheVariants.{Load, LoadNull, LoadWhole, Keep, KeepOf, Skip}
+use Rattle.fp_machine.specs.declared.code.Step.TheVariants.{SkipIfFalse, SkipIfTrue, Find, FindVariable, One, Two}
+use Rattle.fp_machine.specs.declared.code.Step.TheVariants.{Three, Second, Third, Join, Collect, Split, SplitByOwnKey}
+use Rattle.fp_machine.specs.declared.code.Step.TheVariants.{Wrap, End}
+use Rattle.fp_targeting.specs.Moment.{IsTimeless}
+use Rattle.fp_machine.specs.Moment.{is_of_the_moment, parts_read, path_reads, operand_reads, step_reads, any_reads}
+use Rattle.fp_machine.proofs.Frugal.{neither}
 
 -- ---- one member of an object
 
@@ -181,17 +176,3 @@ code-timeless code sound h context key now later =
     some_is (sym (sound.gives one) ∙
     (run-alike (env_of code) one other (with-alike key now later (data_of context)) (in_order code) 0 null []
     none ∙ sound.gives other))
-
--- ---- paths
-
-abbrev pub Lacks : ℕ → List ℕ → Type 0
-Lacks c xs = (i : ℕ) → i < length xs → get_or xs i 0 ≢ c
-
-no_dots : (xs : List ℕ) → Lacks 46 xs → Every (λ b. b == 46 ≡ false) xs
-no_dots xs h = All-from_get_or (λ b. b == 46 ≡ false) xs 0 (λ i less. ne_eqb (get_or xs i 0) 46 (h i less))
-
-pub parts_cut : (xs rest : List ℕ) → Lacks 46 xs → parts (xs ++ 46 ∷ rest) ≡ xs ∷ parts rest
-parts_cut xs rest h = slice_split_at (λ b. b == 46) xs 46 rest (no_dots xs h) refl
-
-pub parts_last : (xs : List ℕ) → Lacks 46 xs → parts xs ≡ xs ∷ []
-parts_last xs h = slice_split_none (λ b. b == 46) xs (no_dots xs h)

@@ -4,10 +4,10 @@ use Rattle.serde_json.specs.Data as json
 use Rattle.serde_json.specs.Data.{depth, items_depth}
 use Rattle.fp_targeting.specs.Compile.{one_more, operator_rule, rule_of, rules_from}
 use Rattle.fp_targeting.specs.Nesting.{nesting, nesting_in, most_nesting}
-use Rattle.fp_targeting.specs.Operators.{operator_of}
-use Rattle.fp_targeting.specs.Rule as tree
-use Rattle.fp_targeting.specs.Rule.{Rule, Rules, no_rules, rule}
-use Rattle.fp_targeting.specs.View.{rules_of}
+use Rattle.fp_machine.specs.Operators.{operator_of}
+use Rattle.fp_machine.specs.Rule as tree
+use Rattle.fp_machine.specs.Rule.{Rule, Rules, no_rules, rule}
+use Rattle.fp_machine.specs.View.{rules_of}
 use Rattle.fp_targeting.proofs.Written.{applied}
 
 abbrev Within : ℕ → Option Rule → Type 0

@@ -8,9 +8,9 @@ use Rattle.fp_base.specs.declared.tree.Tree.{Tree}
 use Rattle.fp_base.proofs.Turns.{drop-here}
 use Rattle.fp_targeting.specs.Compile.{first_of, one_more, first_unknown, items_unknown, rule_of, rules_from}
 use Rattle.fp_targeting.specs.Compiles.{IsCompiled, AreCompiled, NoRule, NoRules, Compiles, CompileAll}
-use Rattle.fp_targeting.specs.Operators.{count_of}
-use Rattle.fp_targeting.specs.Rule.{Rule}
-use Rattle.fp_targeting.specs.View.{rules_of}
+use Rattle.fp_machine.specs.Operators.{count_of}
+use Rattle.fp_machine.specs.Rule.{Rule}
+use Rattle.fp_machine.specs.View.{rules_of}
 
 -- ---- no rules
 

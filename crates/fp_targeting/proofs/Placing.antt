@@ -5,12 +5,12 @@ use Rattle.serde_json.specs.Data as json
 use Rattle.fp_base.specs.Count.{count, items_count}
 use Rattle.fp_operators.specs.Data.{Data}
 use Rattle.fp_targeting.specs.Compile.{one_more, operator_rule, rule_of, rules_from}
-use Rattle.fp_targeting.specs.Operators.{operator_of, allows}
+use Rattle.fp_machine.specs.Operators.{operator_of, allows}
 use Rattle.fp_targeting.specs.Places.{places, all_places}
-use Rattle.fp_targeting.specs.Rule as tree
-use Rattle.fp_targeting.specs.Rule.{Rule}
-use Rattle.fp_targeting.specs.View.{rules_of}
-use Rattle.fp_targeting.specs.declared.operator.Operator.{Operator}
+use Rattle.fp_machine.specs.Rule as tree
+use Rattle.fp_machine.specs.Rule.{Rule}
+use Rattle.fp_machine.specs.View.{rules_of}
+use Rattle.fp_machine.specs.declared.operator.Operator.{Operator}
 
 abbrev Within : ℕ → Option Rule → Type 0
 Within n o = (r : Rule) → o ≡ Some r → places r ≤ n

@@ -11,20 +11,20 @@ use Rattle.fp_operators.specs.FromJson.{data_of}
 use Rattle.fp_targeting.specs.Compile.{first_unknown, items_unknown, one_more, rule_of, rules_from, arguments_of}
 use Rattle.fp_targeting.specs.Compiles.{AreCompiled, Compiles, Applies, CompileSplit, is_array}
 use Rattle.fp_targeting.specs.Emits.{Pushed, Adds, IsOperand}
-use Rattle.fp_targeting.specs.Machine.{run, look, share_of_key}
-use Rattle.fp_targeting.specs.Meaning.{meaning, meanings}
-use Rattle.fp_targeting.specs.Operators.{operator_of, allows}
-use Rattle.fp_targeting.specs.Reading.{reads, read, in_order}
-use Rattle.fp_targeting.specs.Rule as tree
-use Rattle.fp_targeting.specs.Rule.{Rule, Rules, no_rules, rule, apply}
-use Rattle.fp_targeting.specs.Split.{is_list, is_any, is_split, total_of, text_in, split_value, own_key}
-use Rattle.fp_targeting.specs.View.{rules_of}
-use Rattle.fp_targeting.specs.declared.code.Code.{Code}
-use Rattle.fp_targeting.specs.declared.code.Operand.{Operand}
-use Rattle.fp_targeting.specs.declared.operator.Operator.{Operator}
-use Rattle.fp_targeting.specs.declared.code.Operand.TheVariants.{AtHand}
-use Rattle.fp_targeting.specs.declared.code.Step.TheVariants.{Split, SplitByOwnKey}
-use Rattle.fp_targeting.specs.declared.operator.Operator.TheVariants.{Fractional}
+use Rattle.fp_machine.specs.Machine.{run, look, share_of_key}
+use Rattle.fp_machine.specs.Meaning.{meaning, meanings}
+use Rattle.fp_machine.specs.Operators.{operator_of, allows}
+use Rattle.fp_machine.specs.Reading.{reads, read, in_order}
+use Rattle.fp_machine.specs.Rule as tree
+use Rattle.fp_machine.specs.Rule.{Rule, Rules, no_rules, rule, apply}
+use Rattle.fp_machine.specs.Split.{is_list, is_any, is_split, total_of, text_in, split_value, own_key}
+use Rattle.fp_machine.specs.View.{rules_of}
+use Rattle.fp_machine.specs.declared.code.Code.{Code}
+use Rattle.fp_machine.specs.declared.code.Operand.{Operand}
+use Rattle.fp_machine.specs.declared.operator.Operator.{Operator}
+use Rattle.fp_machine.specs.declared.code.Operand.TheVariants.{AtHand}
+use Rattle.fp_machine.specs.declared.code.Step.TheVariants.{Split, SplitByOwnKey}
+use Rattle.fp_machine.specs.declared.operator.Operator.TheVariants.{Fractional}
 use Rattle.fp_targeting.proofs.Trees.{rule_of-operator}
 use Rattle.fp_targeting.proofs.Frugal.{pushed-frugal, operand-frugal, first-none, first-deep}
 use Rattle.fp_targeting.proofs.Emitting.{operand-order, grows-trans, pushed-has, pushed-few, pushed-grows, pushed-run, pushed-read}

@@ -2,24 +2,24 @@
 use Rattle.std.proofs.Common.{◌≡◌, ◌≤◌, ◌+◌, ℕ, List, [], ◌∷◌, length, true, false, refl, ap, ◌∙◌, arith}
 use Rattle.fp_operators.specs.Data.{Data, null}
 use Rattle.fp_targeting.specs.Emits.{Grows, Pushed, IsOperand, Adds, AddsAlone, Has, Raised}
-use Rattle.fp_targeting.specs.Frugal.{IsFrugal}
-use Rattle.fp_targeting.specs.Machine.{Env, run, few, look}
-use Rattle.fp_targeting.specs.Meaning.{meaning, meanings, value_at}
-use Rattle.fp_targeting.specs.Memory.{needs_memory}
+use Rattle.fp_machine.specs.Frugal.{IsFrugal}
+use Rattle.fp_machine.specs.Machine.{Env, run, few, look}
+use Rattle.fp_machine.specs.Meaning.{meaning, meanings, value_at}
+use Rattle.fp_machine.specs.Memory.{needs_memory}
 use Rattle.fp_targeting.specs.Nesting.{nesting}
-use Rattle.fp_targeting.specs.Operators.{takes}
+use Rattle.fp_machine.specs.Operators.{takes}
 use Rattle.fp_targeting.specs.Places.{places}
-use Rattle.fp_targeting.specs.Reading.{operand_rule, reads, read, in_order}
-use Rattle.fp_targeting.specs.Rule as tree
-use Rattle.fp_targeting.specs.Rule.{Rule, Rules, no_rules, rule}
+use Rattle.fp_machine.specs.Reading.{operand_rule, reads, read, in_order}
+use Rattle.fp_machine.specs.Rule as tree
+use Rattle.fp_machine.specs.Rule.{Rule, Rules, no_rules, rule}
 use Rattle.fp_targeting.specs.Strict.{is_strict}
-use Rattle.fp_targeting.specs.declared.code.Code.{Code}
-use Rattle.fp_targeting.specs.declared.code.Operand.{Operand}
-use Rattle.fp_targeting.specs.declared.operator.Operator.{Operator}
-use Rattle.fp_targeting.specs.declared.code.Operand.TheVariants.{AtHand}
-use Rattle.fp_targeting.specs.declared.code.Step.TheVariants.{Keep, One, Two, Three, Second, Third}
-use Rattle.fp_targeting.specs.declared.operator.Operator.TheVariants.{If, And, Or, Var, Cat, SemVer, Fractional, Unary, Binary, Chain}
-use Rattle.fp_targeting.specs.Numbers.{DEEPEST_RULE}
+use Rattle.fp_machine.specs.declared.code.Code.{Code}
+use Rattle.fp_machine.specs.declared.code.Operand.{Operand}
+use Rattle.fp_machine.specs.declared.operator.Operator.{Operator}
+use Rattle.fp_machine.specs.declared.code.Operand.TheVariants.{AtHand}
+use Rattle.fp_machine.specs.declared.code.Step.TheVariants.{Keep, One, Two, Three, Second, Third}
+use Rattle.fp_machine.specs.declared.operator.Operator.TheVariants.{If, And, Or, Var, Cat, SemVer, Fractional, Unary, Binary, Chain}
+use Rattle.fp_machine.specs.Numbers.{DEEPEST_RULE}
 use Rattle.fp_targeting.proofs.Frugal.{pushed-frugal, raised-frugal, operand-frugal, itself-none, all-none, first-none}
 use Rattle.fp_targeting.proofs.Frugal.{others-none, first-deep, strict-asks}
 use Rattle.fp_targeting.proofs.Emitting.{one-place, grows-trans, pushed-has, pushed-few, pushed-grows, pushed-run}

@@ -12,14 +12,15 @@ use Rattle.fp_operators.specs.Data.{Data, whole, text}
 use Rattle.fp_operators.specs.FromJson.{whole_or_null}
 use Rattle.fp_operators.specs.declared.datum.Datum.TheVariants as Datum
 use Rattle.fp_targeting.specs.Compile.{first_of, first_unknown, items_unknown, one_more, arguments_of, rule_of, rules_from}
-use Rattle.fp_targeting.specs.Operators.{operator_of, allows}
-use Rattle.fp_targeting.specs.Rule as tree
-use Rattle.fp_targeting.specs.Rule.{Rule, Rules, no_rules, rule}
-use Rattle.fp_targeting.specs.Split.{Share, weight_in, name_of, weight_of, share_of, total_after, within_limit}
-use Rattle.fp_targeting.specs.Table.{Written, name_written, weight_written, pair_of_items, pair_written, pair_rule, share_rule}
-use Rattle.fp_targeting.specs.View.{rules_of}
-use Rattle.fp_targeting.specs.declared.operator.Operator.{Operator}
-use Rattle.fp_targeting.specs.Numbers.{GREATEST_WEIGHT}
+use Rattle.fp_machine.specs.Operators.{operator_of, allows}
+use Rattle.fp_machine.specs.Rule as tree
+use Rattle.fp_machine.specs.Rule.{Rule, Rules, no_rules, rule}
+use Rattle.fp_machine.specs.Split.{Share, weight_in, name_of, weight_of, share_of, total_after, within_limit}
+use Rattle.fp_targeting.specs.Pairs.{Written, name_written, weight_written, pair_of_items, pair_written}
+use Rattle.fp_machine.specs.Table.{pair_rule, share_rule}
+use Rattle.fp_machine.specs.View.{rules_of}
+use Rattle.fp_machine.specs.declared.operator.Operator.{Operator}
+use Rattle.fp_machine.specs.Numbers.{GREATEST_WEIGHT}
 use Rattle.fp_operators.proofs.Variants.{view-Text}
 use Rattle.fp_targeting.proofs.Trees.{rule_of-operator}
 

@@ -6,8 +6,8 @@ use Rattle.fp_base.specs.TreeView.{Entry, tree_view, tree_members}
 use Rattle.fp_base.specs.declared.tree.Tree.TheVariants.{Object}
 use Rattle.fp_base.proofs.Views.{view-Object}
 use Rattle.fp_targeting.specs.Compile.{first_unknown, operator_rule, arguments_of, rule_of}
-use Rattle.fp_targeting.specs.Constant.{is_literal}
-use Rattle.fp_targeting.specs.Operators.{operator_of}
+use Rattle.fp_targeting.specs.Literal.{is_literal}
+use Rattle.fp_machine.specs.Operators.{operator_of}
 
 only-member : (ms : List Entry) (m : Entry) → length ms ≡ 1 → m ≡ get_or ms 0 m →
     tree_members ms ≡ member m.0.now (tree_view m.1) no_members

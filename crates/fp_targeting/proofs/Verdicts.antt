@@ -9,10 +9,11 @@ use Rattle.fp_base.specs.Whole.{is_whole}
 use Rattle.fp_targeting.specs.Answer.{Tells, unknown_or_bad}
 use Rattle.fp_targeting.specs.Compile.{Fault, bad, too_deep, first_unknown, rule_of, rule_or_bad, verdict_known, verdict}
 use Rattle.fp_targeting.specs.Compiles.{NoRule}
-use Rattle.fp_targeting.specs.Rule.{Rule}
+use Rattle.fp_machine.specs.Rule.{Rule}
 use Rattle.fp_targeting.specs.declared.rule.RuleFault.{RuleFault}
 use Rattle.fp_targeting.specs.declared.rule.RuleFault.TheVariants.{TooDeep, UnsupportedOperator, BadRule, Memory}
-use Rattle.fp_targeting.specs.Numbers.{DEEPEST_RULE, MOST_RULE_VALUES}
+use Rattle.fp_machine.specs.Numbers.{DEEPEST_RULE}
+use Rattle.fp_targeting.specs.Numbers.{MOST_RULE_VALUES}
 
 verdict-flat : (d : Data) → depth d ≤ DEEPEST_RULE → verdict d ≡ verdict_known d (first_unknown d)
 verdict-flat d flat = ap (λ b. if b then verdict_known d (first_unknown d) else Err too_deep) (le-leb (depth d) DEEPEST_RULE flat)

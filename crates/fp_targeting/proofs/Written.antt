@@ -4,14 +4,14 @@ use Rattle.std.proofs.Common.{option_and_then, refl, sym, ap, ap₂, ◌∙◌, 
 use Rattle.serde_json.specs.Data as json
 use Rattle.serde_json.specs.Find.{as_str}
 use Rattle.fp_targeting.specs.Compile.{one_more, rule_of, rules_from, arguments_of}
-use Rattle.fp_targeting.specs.Constant.{is_literal, all_literal}
-use Rattle.fp_targeting.specs.Memory.{are_literals}
-use Rattle.fp_targeting.specs.Operators.{operator_of, allows}
-use Rattle.fp_targeting.specs.Rule as tree
-use Rattle.fp_targeting.specs.Rule.{Rule, Rules, no_rules, rule}
-use Rattle.fp_targeting.specs.Split.{literal_in}
-use Rattle.fp_targeting.specs.View.{rules_of}
-use Rattle.fp_targeting.specs.declared.operator.Operator.{Operator}
+use Rattle.fp_targeting.specs.Literal.{is_literal, all_literal}
+use Rattle.fp_machine.specs.Memory.{are_literals}
+use Rattle.fp_machine.specs.Operators.{operator_of, allows}
+use Rattle.fp_machine.specs.Rule as tree
+use Rattle.fp_machine.specs.Rule.{Rule, Rules, no_rules, rule}
+use Rattle.fp_machine.specs.Split.{literal_in}
+use Rattle.fp_machine.specs.View.{rules_of}
+use Rattle.fp_machine.specs.declared.operator.Operator.{Operator}
 use Rattle.fp_targeting.proofs.Trees.{rule_of-operator}
 
 -- ---- the rule of an operator's object

@@ -6,11 +6,12 @@ use Rattle.serde_json.specs.Data.{no_items, item, no_members, member, depth}
 use Rattle.fp_base.specs.Count.{count}
 use Rattle.fp_base.specs.Whole.{is_whole}
 use Rattle.fp_operators.specs.FromJson.{data_of}
-use Rattle.fp_targeting.specs.Rule as tree
-use Rattle.fp_targeting.specs.Rule.{Rule}
-use Rattle.fp_targeting.specs.Operators.{operator_of, allows, well_formed, all_well_formed}
-use Rattle.fp_targeting.specs.View.{rules_of}
-use Rattle.fp_targeting.specs.Numbers.{DEEPEST_RULE, MOST_RULE_VALUES}
+use Rattle.fp_machine.specs.Rule as tree
+use Rattle.fp_machine.specs.Rule.{Rule}
+use Rattle.fp_machine.specs.Operators.{operator_of, allows, well_formed, all_well_formed}
+use Rattle.fp_machine.specs.View.{rules_of}
+use Rattle.fp_machine.specs.Numbers.{DEEPEST_RULE}
+use Rattle.fp_targeting.specs.Numbers.{MOST_RULE_VALUES}
 
 abbrev pub first_of : Option (List ℕ) → Option (List ℕ) → Option (List ℕ)
 first_of None other = other

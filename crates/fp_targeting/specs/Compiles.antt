@@ -3,12 +3,12 @@ use Rattle.std.specs.Prelude.{◌≡◌, List, Bool, true, false, Some, None, is
 use Rattle.serde_json.specs.Data.{Data, null, boolean, number, string, array, object, Items}
 use Rattle.serde_json.specs.Data.{no_members, member}
 use Rattle.fp_targeting.specs.Compile.{first_unknown, items_unknown, rule_of, rules_from}
-use Rattle.fp_targeting.specs.Constant.{all_literal}
-use Rattle.fp_targeting.specs.Operators.{allows}
-use Rattle.fp_targeting.specs.Rule.{Rule, apply}
-use Rattle.fp_targeting.specs.Split.{total_of}
-use Rattle.fp_targeting.specs.View.{rules_of}
-use Rattle.fp_targeting.specs.declared.operator.Operator.{Operator}
+use Rattle.fp_targeting.specs.Literal.{all_literal}
+use Rattle.fp_machine.specs.Operators.{allows}
+use Rattle.fp_machine.specs.Rule.{Rule, apply}
+use Rattle.fp_machine.specs.Split.{total_of}
+use Rattle.fp_machine.specs.View.{rules_of}
+use Rattle.fp_machine.specs.declared.operator.Operator.{Operator}
 
 -- the value is a rule without an unknown operator, and this was made of it
 pub record IsCompiled (Made : Rule → Type 0) (d : Data) : Type 0 where

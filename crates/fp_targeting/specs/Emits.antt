@@ -1,26 +1,25 @@
 -- What is added to code, and what it then does.
 use Rattle.std.specs.Prelude.{◌≡◌, ◌≤◌, ◌<◌, ◌+◌, ◌^◌, ℕ, List, [], ◌∷◌, ◌++◌, length, map, get_or}
-use Rattle.std.specs.Prelude.{Some, true, false, max, option_and_then}
+use Rattle.std.specs.Prelude.{false, max, option_and_then}
 use Rattle.fp_operators.specs.Data.{Data, null}
 use Rattle.fp_operators.specs.Path.{named_by}
 use Rattle.fp_operators.specs.View.{view}
 use Rattle.fp_operators.specs.declared.datum.Datum.{Datum}
-use Rattle.fp_targeting.specs.Frugal.{IsFrugal}
-use Rattle.fp_targeting.specs.Machine.{Env, Turn, look, run, found_at}
-use Rattle.fp_targeting.specs.Meaning.{meaning, meanings, value_of_operator}
-use Rattle.fp_targeting.specs.Memory.{needs_memory}
+use Rattle.fp_machine.specs.Frugal.{IsFrugal}
+use Rattle.fp_machine.specs.Machine.{Env, Turn, look, run, found_at}
+use Rattle.fp_machine.specs.Meaning.{meaning, meanings, value_of_operator}
+use Rattle.fp_machine.specs.Memory.{needs_memory}
 use Rattle.fp_targeting.specs.Nesting.{nesting}
-use Rattle.fp_targeting.specs.Operators.{well_formed}
 use Rattle.fp_targeting.specs.Places.{places, all_places}
-use Rattle.fp_targeting.specs.Reading.{operand_rule, read, in_order, env_of, rule_of_code}
-use Rattle.fp_targeting.specs.Rule.{Rule, apply}
-use Rattle.fp_targeting.specs.Stack.{onto}
-use Rattle.fp_targeting.specs.View.{rules_of}
-use Rattle.fp_targeting.specs.declared.operator.Operator.{Operator}
-use Rattle.fp_targeting.specs.declared.code.Code.{Code}
-use Rattle.fp_targeting.specs.declared.code.Operand.{Operand}
-use Rattle.fp_targeting.specs.declared.code.Step.{Step}
-use Rattle.fp_targeting.specs.Numbers.{DEEPEST_RULE}
+use Rattle.fp_machine.specs.Reading.{operand_rule, read, in_order}
+use Rattle.fp_machine.specs.Rule.{Rule, apply}
+use Rattle.fp_machine.specs.Stack.{onto}
+use Rattle.fp_machine.specs.View.{rules_of}
+use Rattle.fp_machine.specs.declared.operator.Operator.{Operator}
+use Rattle.fp_machine.specs.declared.code.Code.{Code}
+use Rattle.fp_machine.specs.declared.code.Operand.{Operand}
+use Rattle.fp_machine.specs.declared.code.Step.{Step}
+use Rattle.fp_machine.specs.Numbers.{DEEPEST_RULE}
 
 -- the code, or what it becomes, has this pool, of which each place has its number of 16 bits, and
 -- this room
@@ -131,13 +130,3 @@ pub record Finds (skip height : ℕ) (p : Rule) (old new : Code) : Type 0 where
       → read env (in_order new) t ≡ read env (in_order old) (p ∷ t)
   pub frugal : needs_memory p ≡ false → height + nesting p ≤ DEEPEST_RULE → IsFrugal old
       → IsFrugal new
-
--- the code is of one rule, with arguments that its operators take, and gives what the rule means:
--- no operand is missing, no instruction outside of it is skipped to, and the stack has room. Where
--- the rule needs no memory, it asks for none.
-pub record IsSound (code : Code) : Type 0 where
-  pub formed : well_formed (rule_of_code code) ≡ true
-  pub gives : (root : Data)
-      → run (env_of code) root (in_order code) 0 null []
-      ≡ Some (meaning root (rule_of_code code))
-  pub frugal : needs_memory (rule_of_code code) ≡ false → IsFrugal code

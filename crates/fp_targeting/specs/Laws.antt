@@ -2,11 +2,11 @@
 use Rattle.std.specs.Prelude.{◌≡◌, ◌↔◌, Bool, true, false, ◌&&◌}
 use Rattle.fp_operators.specs.Data.{Data, boolean}
 use Rattle.fp_operators.specs.Truth.{truth}
-use Rattle.fp_targeting.specs.Rule.{Rule, Rules, literal, list, apply, no_rules, rule}
-use Rattle.fp_targeting.specs.Means.{Means}
-use Rattle.fp_targeting.specs.declared.operator.Operator.{Operator}
-use Rattle.fp_targeting.specs.declared.operator.Operator.TheVariants.{Var, Unary, Fractional}
-use Rattle.fp_targeting.specs.declared.operator.UnaryOperator.TheVariants.{Not, Truth}
+use Rattle.fp_machine.specs.Rule.{Rule, Rules, literal, list, apply, no_rules, rule}
+use Rattle.fp_machine.specs.Means.{Means}
+use Rattle.fp_machine.specs.declared.operator.Operator.{Operator}
+use Rattle.fp_machine.specs.declared.operator.Operator.TheVariants.{Var, Unary, Fractional}
+use Rattle.fp_machine.specs.declared.operator.UnaryOperator.TheVariants.{Not, Truth}
 
 -- `{"!!":[r]}`
 abbrev pub truth_rule : Rule → Rule

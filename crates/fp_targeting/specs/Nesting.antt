@@ -1,7 +1,7 @@
 -- How deep operators stand in one another.
 use Rattle.std.specs.Prelude.{ℕ, suc, max}
-use Rattle.fp_targeting.specs.Rule as tree
-use Rattle.fp_targeting.specs.Rule.{Rule, Rules, no_rules, rule}
+use Rattle.fp_machine.specs.Rule as tree
+use Rattle.fp_machine.specs.Rule.{Rule, Rules, no_rules, rule}
 
 -- in JSON, arguments stand in an operator's object, and in a list where they are several: both
 -- count. What stands in lists and literals doesn't.

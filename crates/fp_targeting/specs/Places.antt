@@ -1,7 +1,7 @@
 -- How many places a rule's constants and paths take, at the most.
 use Rattle.std.specs.Prelude.{ℕ, ◌+◌}
-use Rattle.fp_targeting.specs.Rule as tree
-use Rattle.fp_targeting.specs.Rule.{Rule, Rules, no_rules, rule}
+use Rattle.fp_machine.specs.Rule as tree
+use Rattle.fp_machine.specs.Rule.{Rule, Rules, no_rules, rule}
 
 -- one for each of its parts, and two more where an operator's operands are looked for twice
 abbrev mutual

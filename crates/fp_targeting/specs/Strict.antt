@@ -1,11 +1,11 @@
 -- What operators look at.
 use Rattle.std.specs.Prelude.{ℕ, Bool, true, false}
-use Rattle.fp_targeting.specs.declared.operator.Operator.{Operator}
-use Rattle.fp_targeting.specs.declared.operator.Operator.TheVariants.{If, And, Or, Var, Cat, SemVer}
-use Rattle.fp_targeting.specs.declared.operator.Operator.TheVariants.{Fractional}
-use Rattle.fp_targeting.specs.declared.operator.Operator.TheVariants.{Unary, Binary, Chain}
-use Rattle.fp_targeting.specs.declared.code.Step.{Step}
-use Rattle.fp_targeting.specs.declared.code.Step.TheVariants.{SkipIfFalse, SkipIfTrue}
+use Rattle.fp_machine.specs.declared.operator.Operator.{Operator}
+use Rattle.fp_machine.specs.declared.operator.Operator.TheVariants.{If, And, Or, Var, Cat, SemVer}
+use Rattle.fp_machine.specs.declared.operator.Operator.TheVariants.{Fractional}
+use Rattle.fp_machine.specs.declared.operator.Operator.TheVariants.{Unary, Binary, Chain}
+use Rattle.fp_machine.specs.declared.code.Step.{Step}
+use Rattle.fp_machine.specs.declared.code.Step.TheVariants.{SkipIfFalse, SkipIfTrue}
 
 -- at the results of all their arguments, of which there are one to three, and at nothing else
 abbrev pub is_strict : Operator → Bool

@@ -1,52 +1,72 @@
 //! From a tree of JSON to the code of the rule that it writes.
 
-ghost use Rattle.std.specs.Prelude.{◌≡◌, ◌≤◌, ◌+◌, true, false, Some, None, IfOk, length};
+ghost use Rattle.std.specs.Prelude.{◌≡◌, ◌≤◌, ◌+◌, [], true, false, Some, None, IfOk, length};
 ghost use Rattle.serde_json.specs.Data.{depth};
 ghost use Rattle.fp_base.specs.Count.{count};
 ghost use Rattle.fp_base.specs.Ordered.{IsOrdered, AreOrdered};
 ghost use Rattle.fp_base.specs.TreeView.{tree_view, tree_items};
 ghost use Rattle.fp_targeting.specs.Compiles.{Compiles, CompileAll, Applies, IsCompiled, NoRule};
 ghost use Rattle.fp_targeting.specs.Compiles.{is_array};
-ghost use Rattle.fp_targeting.specs.Emits.{Adds, Decides, Finds, IsSound};
-ghost use Rattle.fp_targeting.specs.Operators.{takes};
-ghost use Rattle.fp_targeting.specs.Reading.{rule_of_code};
-ghost use Rattle.fp_targeting.specs.Rule.{apply, rule};
+ghost use Rattle.fp_targeting.specs.Emits.{Adds, Decides, Finds};
+ghost use Rattle.fp_machine.specs.Sound.{IsSound};
+ghost use Rattle.fp_machine.specs.Operators.{takes};
+ghost use Rattle.fp_machine.specs.Reading.{rule_of_code};
+ghost use Rattle.fp_machine.specs.Rule.{apply, rule};
 ghost use Rattle.fp_targeting.specs.Strict.{stops, skip_past, looks_at_results};
-ghost use Rattle.fp_targeting.specs.View.{rules_of};
-ghost use Rattle.fp_targeting.specs.declared.code.Code.{Code};
-ghost use Rattle.fp_targeting.specs.declared.operator.Operator.TheVariants.{If, Var, Fractional};
-ghost use Rattle.fp_targeting.specs.Numbers.{DEEPEST_RULE, MOST_RULE_VALUES};
+ghost use Rattle.fp_machine.specs.View.{rules_of};
+ghost use Rattle.fp_machine.specs.declared.code.Code.{Code};
+ghost use Rattle.fp_machine.specs.declared.operator.Operator.TheVariants.{If, Var, Fractional};
+ghost use Rattle.fp_machine.specs.Numbers.{DEEPEST_RULE};
+ghost use Rattle.fp_targeting.specs.Numbers.{MOST_RULE_VALUES};
 
-use crate::code::{Code, Operand, Step};
+use crate::builder::{Builder, short};
 use crate::json::{are_literals, arguments, is_array, text_of};
-use crate::operands::short;
-use crate::operator::Operator;
-use crate::table::Table;
+use crate::pairs::read_table;
 use fp_base::Tree as Json;
+use fp_machine::{Code, Operand, Operator, Step, Table};
 use std::alloc::{AllocError, Global};
 
-impl Code {
-    /// The code of a rule, or none where the value is no rule or has an unknown operator.
-    pub fn of(alloc: Global, json: &Json<'_>) -> Result<Option<Code>, AllocError>
-        requires ordered { IsOrdered (tree_view json.now) }
-        requires few { count (tree_view json.now) ≤ MOST_RULE_VALUES }
-        requires flat { depth (tree_view json.now) ≤ DEEPEST_RULE }
-        ensures some { IfOk result (λ x. (code : Code) → x ≡ Some code
-            → IsCompiled (λ r. (r ≡ rule_of_code code) × IsSound code) (tree_view json.now)) }
-        ensures none { IfOk result (λ x. x ≡ None → NoRule (tree_view json.now)) }
-    {
-        let mut code = Code {
-            steps: Vec::new(alloc),
-            pool: Vec::new(alloc),
-            room: 0,
-        };
-        if !code.compute(alloc, json, 0)? {
-            return Ok(None);
-        }
-        code.shrink();
-        Ok(Some(code))
-    }
+// So many instructions and constants have room beside those that a rule of few values mostly has.
+const SPARE: usize = 4;
 
+/// The code of a rule of about so many JSON values, or none where the value is no rule or has an
+/// unknown operator. Mostly there is half an instruction and a quarter of a constant a value: so
+/// much room is taken at once, and what isn't needed is given back.
+pub fn code_of(
+    alloc: Global,
+    json: &Json<'_>,
+    values: usize,
+) -> Result<Option<Code>, AllocError>
+    requires ordered { IsOrdered (tree_view json.now) }
+    requires few { count (tree_view json.now) ≤ MOST_RULE_VALUES }
+    requires flat { depth (tree_view json.now) ≤ DEEPEST_RULE }
+    ensures some { IfOk result (λ x. (code : Code) → x ≡ Some code
+        → IsCompiled (λ r. (r ≡ rule_of_code code) × IsSound code) (tree_view json.now)) }
+    ensures none { IfOk result (λ x. x ≡ None → NoRule (tree_view json.now)) }
+{
+    let mut builder = Builder {
+        code: no_code(alloc, values)?,
+    };
+    if !builder.compute(alloc, json, 0)? {
+        return Ok(None);
+    }
+    builder.shrink();
+    Ok(Some(builder.code))
+}
+
+// No code yet, with room for that of a rule of so many values.
+fn no_code(alloc: Global, values: usize) -> Result<Code, AllocError>
+    ensures { IfOk result (λ code.
+        (code.steps.items ≡ []) × (code.pool.items ≡ []) × (code.room ≡ 0)) }
+{
+    Ok(Code {
+        steps: Vec::with_capacity(alloc, values / 2 + SPARE)?,
+        pool: Vec::with_capacity(alloc, values / 4 + SPARE)?,
+        room: 0,
+    })
+}
+
+impl Builder {
     // Code of the arguments of `and` and `or`: each but the last one may decide.
     #[cycle(build)]
     fn conditions(
@@ -60,16 +80,17 @@ impl Code {
         requires any { 1 ≤ length arguments.now }
         requires ordered { AreOrdered (tree_items arguments.now) }
         ensures { IfOk result (λ done. CompileAll done
-            (λ rs. Decides operator height rs self.old self.new) (tree_items arguments.now)) }
+            (λ rs. Decides operator height rs self.old.code self.new.code)
+            (tree_items arguments.now)) }
     {
-        let end = self.steps.len();
+        let end = self.code.steps.len();
         let mut left = arguments.len() - 1;
         if !self.compute(alloc, &arguments[left], height)? {
             return Ok(false);
         }
         'conditions: while left > 0 {
             left -= 1;
-            let skipped = short(self.steps.len() - end)?;
+            let skipped = short(self.code.steps.len() - end)?;
             self.push(skip_past(operator, skipped))?;
             if !self.compute(alloc, &arguments[left], height)? {
                 return Ok(false);
@@ -89,7 +110,7 @@ impl Code {
         requires few { length arguments.now ≤ 1 }
         requires ordered { AreOrdered (tree_items arguments.now) }
         ensures { IfOk result (λ done. CompileAll done
-            (λ rs. Decides If height rs self.old self.new) (tree_items arguments.now)) }
+            (λ rs. Decides If height rs self.old.code self.new.code) (tree_items arguments.now)) }
     {
         match arguments {
             [last, ..] => Ok(self.compute(alloc, last, height)?),
@@ -110,22 +131,22 @@ impl Code {
     ) -> Result<bool, AllocError>
         requires ordered { AreOrdered (tree_items arguments.now) }
         ensures { IfOk result (λ done. CompileAll done
-            (λ rs. Decides If height rs self.old self.new) (tree_items arguments.now)) }
+            (λ rs. Decides If height rs self.old.code self.new.code) (tree_items arguments.now)) }
     {
-        let end = self.steps.len();
+        let end = self.code.steps.len();
         let mut pairs = arguments.len() / 2;
         if !self.otherwise(alloc, &arguments[2 * pairs..], height)? {
             return Ok(false);
         }
         'pairs: while pairs > 0 {
             pairs -= 1;
-            let other = self.steps.len();
+            let other = self.code.steps.len();
             let skipped = short(other - end)?;
             self.push(Step::Skip(skipped))?;
             if !self.compute(alloc, &arguments[2 * pairs + 1], height)? {
                 return Ok(false);
             }
-            let skipped = short(self.steps.len() - other)?;
+            let skipped = short(self.code.steps.len() - other)?;
             self.push(Step::SkipIfFalse(skipped))?;
             if !self.compute(alloc, &arguments[2 * pairs], height)? {
                 return Ok(false);
@@ -145,7 +166,7 @@ impl Code {
     ) -> Result<bool, AllocError>
         requires { IsOrdered (tree_view path.now) }
         ensures { IfOk result (λ done. Compiles done
-            (λ p. Finds skip height p self.old self.new) (tree_view path.now)) }
+            (λ p. Finds skip height p self.old.code self.new.code) (tree_view path.now)) }
     {
         if let Some(known) = text_of(path) {
             self.find_known(alloc, known, skip)?;
@@ -167,15 +188,15 @@ impl Code {
         requires few { length arguments.now ≤ 2 }
         requires ordered { AreOrdered (tree_items arguments.now) }
         ensures { IfOk result (λ done. CompileAll done
-            (λ rs. Decides Var height rs self.old self.new) (tree_items arguments.now)) }
+            (λ rs. Decides Var height rs self.old.code self.new.code) (tree_items arguments.now)) }
     {
         match arguments {
             [path, default, ..] => {
-                let end = self.steps.len();
+                let end = self.code.steps.len();
                 if !self.compute(alloc, default, height)? {
                     return Ok(false);
                 }
-                let skipped = short(self.steps.len() - end)?;
+                let skipped = short(self.code.steps.len() - end)?;
                 Ok(self.find(alloc, path, skipped, height)?)
             }
             [path, ..] => Ok(self.find(alloc, path, 0, height)?),
@@ -195,7 +216,7 @@ impl Code {
         requires ordered { IsOrdered (tree_view bucketing.now) }
         requires other { is_array (tree_view bucketing.now) ≡ false }
         ensures { IfOk result (λ done. Compiles done
-            (λ r. Adds height (apply Fractional (rule r table)) self.old self.new)
+            (λ r. Adds height (apply Fractional (rule r table)) self.old.code self.new.code)
             (tree_view bucketing.now)) }
     {
         match self.operand(alloc, bucketing)? {
@@ -220,7 +241,7 @@ impl Code {
     ) -> Result<bool, AllocError>
         requires ordered { AreOrdered (tree_items arguments.now) }
         ensures { IfOk result (λ done. Applies done Fractional
-            (λ r. Adds height r self.old self.new) (tree_items arguments.now)) }
+            (λ r. Adds height r self.old.code self.new.code) (tree_items arguments.now)) }
     {
         match arguments {
             [] => Ok(false),
@@ -231,7 +252,7 @@ impl Code {
                 if behind.is_empty() {
                     return Ok(false);
                 }
-                let Some(table) = Table::read(alloc, behind)? else {
+                let Some(table) = read_table(alloc, behind)? else {
                     return Ok(false);
                 };
                 Ok(self.split_by(alloc, first, table, height)?)
@@ -250,7 +271,7 @@ impl Code {
         requires takes { length arguments.now ≤ 2 }
         requires ordered { AreOrdered (tree_items arguments.now) }
         ensures { IfOk result (λ done. CompileAll done
-            (λ rs. Adds height (apply Var (rules_of rs)) self.old self.new)
+            (λ rs. Adds height (apply Var (rules_of rs)) self.old.code self.new.code)
             (tree_items arguments.now)) }
     {
         if let Some(operand) = self.known_variable(alloc, arguments)? {
@@ -274,7 +295,7 @@ impl Code {
         requires other { looks_at_results operator ≡ true }
         requires ordered { AreOrdered (tree_items arguments.now) }
         ensures { IfOk result (λ done. CompileAll done
-            (λ rs. Adds height (apply operator (rules_of rs)) self.old self.new)
+            (λ rs. Adds height (apply operator (rules_of rs)) self.old.code self.new.code)
             (tree_items arguments.now)) }
     {
         match operator {
@@ -310,7 +331,7 @@ impl Code {
     ) -> Result<bool, AllocError>
         requires ordered { AreOrdered (tree_items arguments.now) }
         ensures { IfOk result (λ done. Applies done operator
-            (λ r. Adds height r self.old self.new) (tree_items arguments.now)) }
+            (λ r. Adds height r self.old.code self.new.code) (tree_items arguments.now)) }
     {
         if let Operator::Fractional = operator {
             return Ok(self.split(alloc, arguments, height)?);
@@ -332,7 +353,7 @@ impl Code {
     ) -> Result<bool, AllocError>
         requires { IsOrdered (tree_view json.now) }
         ensures { IfOk result (λ done. Compiles done
-            (λ r. Adds height r self.old self.new) (tree_view json.now)) }
+            (λ r. Adds height r self.old.code self.new.code) (tree_view json.now)) }
     {
         match json {
             Json::Null | Json::Bool(_) | Json::Number(_) | Json::String(_) => {
@@ -371,11 +392,4 @@ fn skip_past(operator: Operator, count: u32) -> Step
         Operator::And => Step::SkipIfFalse(count),
         _ => Step::SkipIfTrue(count),
     }
-}
-
-/// So many more kept results. More than there are numbers for can't be had.
-pub fn above(height: usize, more: usize) -> Result<usize, AllocError>
-    ensures { IfOk result (λ n. n ≡ height + more) }
-{
-    height.checked_add(more).ok_or(AllocError)
 }

@@ -29,7 +29,7 @@ pub struct Data {
 impl Model for Data {
     ghost use Rattle.fp_operators.specs.Data as values;
     ghost use Rattle.fp_operators.specs.View.{view as datum_view};
-    ghost use Rattle.fp_targeting.specs.Codes.{coded_data};
+    ghost use Rattle.fp_machine.specs.Codes.{coded_data};
     ghost use Rattle.fp_targeting.specs.Room.{HasRoom};
 
     ghost Value = { values.Data };

@@ -10,7 +10,7 @@ ghost use Rattle.fp_targeting.specs.Compile.{rules_from};
 ghost use Rattle.fp_targeting.specs.Compiles.{is_array};
 ghost use Rattle.fp_operators.specs.FromJson.{data_of, items_from};
 ghost use Rattle.fp_operators.specs.View.{view, items_view};
-ghost use Rattle.fp_targeting.specs.Constant.{is_literal, all_literal, whole_in};
+ghost use Rattle.fp_targeting.specs.Literal.{is_literal, all_literal, whole_in};
 
 use fp_base::Tree as Json;
 use fp_operators::Datum;

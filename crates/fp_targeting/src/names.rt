@@ -4,8 +4,8 @@ ghost use Rattle.std.specs.Prelude.{◌≡◌, option_map};
 ghost use Rattle.fp_base.specs.TreeView.{tree_view, tree_items};
 ghost use Rattle.fp_targeting.specs.Compile.{first_unknown, items_unknown};
 
-use crate::operator::Operator;
 use fp_base::Tree as Json;
+use fp_machine::Operator;
 
 /// The first name in reading order that stands for an operator and is none's.
 #[cycle(names)]

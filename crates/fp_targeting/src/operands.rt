@@ -7,65 +7,29 @@ ghost use Rattle.fp_base.specs.TreeView.{tree_view, tree_items};
 ghost use Rattle.fp_operators.specs.Data.{text};
 ghost use Rattle.fp_operators.specs.FromJson.{data_of};
 ghost use Rattle.fp_targeting.specs.Compiles.{IsCompiled, AreCompiled, is_plain, CompileSplit};
-ghost use Rattle.fp_targeting.specs.Emits.{Pushed, Raised, IsOperand, Adds, Finds, IsPlaced};
+ghost use Rattle.fp_targeting.specs.Emits.{Pushed, IsOperand, Adds, Finds, IsPlaced};
 ghost use Rattle.fp_targeting.specs.Emits.{Stands};
-ghost use Rattle.fp_targeting.specs.Rule.{apply, literal, rule, no_rules};
-ghost use Rattle.fp_targeting.specs.View.{rules_of};
-ghost use Rattle.fp_targeting.specs.declared.code.Operand.{Operand};
-ghost use Rattle.fp_targeting.specs.declared.code.Step.TheVariants.{LoadWhole, End};
-ghost use Rattle.fp_targeting.specs.declared.operator.Operator.TheVariants.{Var, Fractional};
+ghost use Rattle.fp_machine.specs.Rule.{apply, literal, rule, no_rules};
+ghost use Rattle.fp_machine.specs.View.{rules_of};
+ghost use Rattle.fp_machine.specs.declared.code.Operand.{Operand};
+ghost use Rattle.fp_machine.specs.declared.code.Step.TheVariants.{LoadWhole};
+ghost use Rattle.fp_machine.specs.declared.operator.Operator.TheVariants.{Var, Fractional};
 
-use crate::code::{Code, Operand, Step};
+use crate::builder::Builder;
 use crate::json::{are_literals, arguments, text_of, whole_number, writes};
-use crate::operator::Operator;
-use crate::table::Table;
+use crate::pairs::read_table;
 use fp_base::Tree as Json;
+use fp_machine::{Operand, Step};
 use fp_operators::Datum;
 use std::alloc::{AllocError, Global};
 
 // Among so many constants, the last ones, an equal one is looked for: a usual rule has fewer.
 const LOOKED_THROUGH: usize = 32;
 
-impl Code {
-    /// Gives back the room that instructions and constants don't need.
-    pub fn shrink(&mut self)
-        ensures steps { self.new.steps.items ≡ self.old.steps.items }
-        ensures pool { self.new.pool.items ≡ self.old.pool.items }
-        ensures room { self.new.room ≡ self.old.room }
-    {
-        self.steps.shrink_to_fit();
-        self.pool.shrink_to_fit();
-    }
-
-    /// One more instruction, to be done before those that are there.
-    pub fn push(&mut self, step: Step) -> Result<(), AllocError>
-        ensures { OnOk result (Pushed step self.old self.new) }
-    {
-        self.steps.push(step)?;
-        Ok(())
-    }
-
-    /// An instruction that keeps one more result, so many with it, is to be done first.
-    pub fn keep(&mut self, step: Step, above: usize) -> Result<(), AllocError>
-        ensures { OnOk result (Raised step above self.old self.new) }
-    {
-        self.steps.push(step)?;
-        self.room = self.room.max(above);
-        Ok(())
-    }
-
-    /// An operator's arguments end here.
-    pub fn end(&mut self, operator: Operator, count: usize) -> Result<(), AllocError>
-        ensures { OnOk result (Pushed (End operator count) self.old self.new) }
-    {
-        let count = short(count)?;
-        self.push(Step::End(operator, count))?;
-        Ok(())
-    }
-
+impl Builder {
     // The number is at hand next.
     fn load_whole(&mut self, number: i64) -> Result<(), AllocError>
-        ensures { OnOk result (Pushed (LoadWhole number) self.old self.new) }
+        ensures { OnOk result (Pushed (LoadWhole number) self.old.code self.new.code) }
     {
         self.push(Step::LoadWhole(number))?;
         Ok(())
@@ -76,7 +40,7 @@ impl Code {
         requires plain { is_plain (tree_view json.now) ≡ true }
         requires ordered { IsOrdered (tree_view json.now) }
         ensures { IfOk result (λ o. IsCompiled
-            (λ r. IsOperand o r self.old self.new) (tree_view json.now)) }
+            (λ r. IsOperand o r self.old.code self.new.code) (tree_view json.now)) }
     {
         let place = self.place(alloc, json)?;
         Ok(Operand::Constant(place))
@@ -85,19 +49,20 @@ impl Code {
     // The place of what a value writes, which is put into the pool where it isn't there.
     fn place(&mut self, alloc: Global, json: &Json<'_>) -> Result<u16, AllocError>
         requires { IsOrdered (tree_view json.now) }
-        ensures { IfOk result (λ n. IsPlaced n (data_of (tree_view json.now)) self.old self.new) }
+        ensures { IfOk result (λ n.
+            IsPlaced n (data_of (tree_view json.now)) self.old.code self.new.code) }
     {
-        if let Some(there) = place_of(self.pool.as_slice(), json) {
+        if let Some(there) = place_of(self.code.pool.as_slice(), json) {
             return Ok(as_place(there));
         }
-        let place = as_place(self.pool.len());
-        self.pool.push(Datum::from_tree(alloc, json)?)?;
+        let place = as_place(self.code.pool.len());
+        self.code.pool.push(Datum::from_tree(alloc, json)?)?;
         Ok(place)
     }
 
     // The place of a path.
     fn path(&mut self, alloc: Global, path: &str) -> Result<u16, AllocError>
-        ensures { IfOk result (λ n. IsPlaced n (text path.now) self.old self.new) }
+        ensures { IfOk result (λ n. IsPlaced n (text path.now) self.old.code self.new.code) }
     {
         let json = Json::String(path);
         self.place(alloc, &json)
@@ -110,9 +75,9 @@ impl Code {
         arguments: &[Json<'_>],
     ) -> Result<Option<Operand>, AllocError>
         ensures some { IfOk result (λ x. (o : Operand) → x ≡ Some o → AreCompiled
-            (λ rs. IsOperand o (apply Var (rules_of rs)) self.old self.new)
+            (λ rs. IsOperand o (apply Var (rules_of rs)) self.old.code self.new.code)
             (tree_items arguments.now)) }
-        ensures none { IfOk result (λ x. x ≡ None → self.new ≡ self.old) }
+        ensures none { IfOk result (λ x. x ≡ None → self.new.code ≡ self.old.code) }
         ensures any { IfOk result (λ x. x ≡ None → 1 ≤ length arguments.now) }
         ensures few { IfOk result (λ x. (o : Operand) → x ≡ Some o → length arguments.now ≤ 1) }
     {
@@ -130,8 +95,8 @@ impl Code {
     pub fn operand(&mut self, alloc: Global, json: &Json<'_>) -> Result<Option<Operand>, AllocError>
         requires ordered { IsOrdered (tree_view json.now) }
         ensures some { IfOk result (λ x. (o : Operand) → x ≡ Some o → IsCompiled
-            (λ r. IsOperand o r self.old self.new) (tree_view json.now)) }
-        ensures none { IfOk result (λ x. x ≡ None → self.new ≡ self.old) }
+            (λ r. IsOperand o r self.old.code self.new.code) (tree_view json.now)) }
+        ensures none { IfOk result (λ x. x ≡ None → self.new.code ≡ self.old.code) }
     {
         match json {
             Json::Null | Json::Bool(_) | Json::Number(_) | Json::String(_) => {
@@ -163,10 +128,10 @@ impl Code {
         pairs: &[Json<'_>],
     ) -> Result<bool, AllocError>
         ensures { IfOk result (λ done. CompileSplit done
-            (λ rs. (h : ℕ) → Adds h (apply Fractional (rules_of rs)) self.old self.new)
+            (λ rs. (h : ℕ) → Adds h (apply Fractional (rules_of rs)) self.old.code self.new.code)
             (tree_items pairs.now)) }
     {
-        let Some(table) = Table::read(alloc, pairs)? else {
+        let Some(table) = read_table(alloc, pairs)? else {
             return Ok(false);
         };
         self.push(Step::SplitByOwnKey(table))?;
@@ -176,7 +141,7 @@ impl Code {
     /// Code of a path that is known. Where it names something, so many instructions are skipped.
     pub fn find_known(&mut self, alloc: Global, path: &str, skip: u32) -> Result<(), AllocError>
         ensures { OnOk result ((h : ℕ)
-            → Finds skip h (literal (text path.now)) self.old self.new) }
+            → Finds skip h (literal (text path.now)) self.old.code self.new.code) }
     {
         let path = self.path(alloc, path)?;
         self.push(Step::FindVariable { path, skip })?;
@@ -188,7 +153,7 @@ impl Code {
         requires plain { is_plain (tree_view json.now) ≡ true }
         requires ordered { IsOrdered (tree_view json.now) }
         ensures { OnOk result ((h : ℕ) → IsCompiled
-            (λ r. Adds h r self.old self.new) (tree_view json.now)) }
+            (λ r. Adds h r self.old.code self.new.code) (tree_view json.now)) }
     {
         if let Some(number) = whole_number(json) {
             self.load_whole(number)?;
@@ -220,14 +185,4 @@ fn as_place(count: usize) -> u16
     ensures { count < 2 ^ 16 → result ≡ count }
 {
     u16::try_from(count).unwrap_or(u16::MAX)
-}
-
-/// As the count of an instruction.
-pub fn short(count: usize) -> Result<u32, AllocError>
-    ensures { IfOk result (λ n. n ≡ count) }
-{
-    match u32::try_from(count) {
-        Ok(count) => Ok(count),
-        Err(_) => Err(AllocError),
-    }
 }

@@ -12,17 +12,17 @@ ghost use Rattle.fp_base.specs.Whole.{is_whole};
 ghost use Rattle.fp_targeting.specs.Answer.{Tells, unknown_or_bad};
 ghost use Rattle.fp_operators.specs.Data as values;
 ghost use Rattle.fp_operators.specs.Memory.{takes_memory};
-ghost use Rattle.fp_targeting.specs.Found.{found_view};
-ghost use Rattle.fp_targeting.specs.Means.{Means};
-ghost use Rattle.fp_targeting.specs.Meaning.{meaning};
-ghost use Rattle.fp_targeting.specs.Memory.{needs_memory};
+ghost use Rattle.fp_machine.specs.Found.{found_view};
+ghost use Rattle.fp_machine.specs.Means.{Means};
+ghost use Rattle.fp_machine.specs.Meaning.{meaning};
+ghost use Rattle.fp_machine.specs.Memory.{needs_memory};
 ghost use Rattle.fp_targeting.specs.Moment.{IsTimeless};
 
-use crate::code::Code;
+use crate::build::code_of;
 use crate::data::Data;
-use crate::machine::Found;
 use crate::names::unknown_operator;
 use fp_base::{Tree as Json, nests_within};
+use fp_machine::{Code, Found};
 use fp_operators::Datum;
 use serde_json::Value;
 use std::alloc::{AllocError, AllocFailed, Global};
@@ -43,10 +43,10 @@ pub struct Rule {
 
 impl Model for Rule {
     ghost use Rattle.std.specs.Prelude.{true, ◌≡◌};
-    ghost use Rattle.fp_targeting.specs.Rule as rules;
-    ghost use Rattle.fp_targeting.specs.Codes.{coded_rule};
-    ghost use Rattle.fp_targeting.specs.Emits.{IsSound};
-    ghost use Rattle.fp_targeting.specs.Reading.{rule_of_code};
+    ghost use Rattle.fp_machine.specs.Rule as rules;
+    ghost use Rattle.fp_machine.specs.Codes.{coded_rule};
+    ghost use Rattle.fp_machine.specs.Sound.{IsSound};
+    ghost use Rattle.fp_machine.specs.Reading.{rule_of_code};
 
     ghost Value = { rules.Rule };
 
@@ -120,10 +120,11 @@ impl Rule {
         requires ordered { IsOrdered (tree_view tree.now) }
         ensures { Gives (λ rule. rule) Tells result (verdict (tree_view tree.now)) }
     {
-        if tree.values_left(MOST_RULE_VALUES).is_none() {
+        let Some(left) = tree.values_left(MOST_RULE_VALUES) else {
             return Err(refusal(alloc, tree));
-        }
-        match Code::of(alloc, tree)? {
+        };
+        let values = MOST_RULE_VALUES.saturating_sub(left);
+        match code_of(alloc, tree, values)? {
             Some(code) => Ok(Rule { code }),
             None => Err(refusal(alloc, tree)),
         }

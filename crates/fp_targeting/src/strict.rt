@@ -5,22 +5,20 @@ ghost use Rattle.serde_json.specs.Data.{no_items, item, array};
 ghost use Rattle.fp_base.specs.Ordered.{IsOrdered, AreOrdered};
 ghost use Rattle.fp_base.specs.TreeView.{tree_view, tree_items};
 ghost use Rattle.fp_targeting.specs.Compiles.{CompileAll, Compiles};
-ghost use Rattle.fp_targeting.specs.Constant.{all_literal};
+ghost use Rattle.fp_targeting.specs.Literal.{all_literal};
 ghost use Rattle.fp_targeting.specs.Emits.{Adds, AddsAlone, Keeps, KeepsOne};
-ghost use Rattle.fp_targeting.specs.Operators.{takes};
-ghost use Rattle.fp_targeting.specs.Rule.{apply};
+ghost use Rattle.fp_machine.specs.Operators.{takes};
+ghost use Rattle.fp_machine.specs.Rule.{apply};
 ghost use Rattle.fp_targeting.specs.Strict.{is_strict};
-ghost use Rattle.fp_targeting.specs.View.{rules_of};
+ghost use Rattle.fp_machine.specs.View.{rules_of};
 
-use crate::build::above;
-use crate::code::{Code, Operand, Step};
+use crate::builder::{Builder, above, short};
 use crate::json::is_lent;
-use crate::operands::short;
-use crate::operator::Operator;
 use fp_base::Tree as Json;
+use fp_machine::{Operand, Operator, Step};
 use std::alloc::{AllocError, Global};
 
-impl Code {
+impl Builder {
     // Code of an operator at one argument.
     #[cycle(build)]
     fn one(
@@ -33,7 +31,7 @@ impl Code {
         requires strict { is_strict operator ≡ true }
         requires ordered { IsOrdered (tree_view a.now) }
         ensures { IfOk result (λ done. CompileAll done
-            (λ rs. Adds height (apply operator (rules_of rs)) self.old self.new)
+            (λ rs. Adds height (apply operator (rules_of rs)) self.old.code self.new.code)
             (item (tree_view a.now) no_items)) }
     {
         match self.operand(alloc, a)? {
@@ -62,7 +60,7 @@ impl Code {
         requires first { IsOrdered (tree_view a.now) }
         requires second { IsOrdered (tree_view b.now) }
         ensures { IfOk result (λ done. CompileAll done
-            (λ rs. Adds height (apply operator (rules_of rs)) self.old self.new)
+            (λ rs. Adds height (apply operator (rules_of rs)) self.old.code self.new.code)
             (item (tree_view a.now) (item (tree_view b.now) no_items))) }
     {
         let first = self.operand(alloc, a)?;
@@ -98,7 +96,7 @@ impl Code {
         requires first { IsOrdered (tree_view a.now) }
         requires second { IsOrdered (tree_view b.now) }
         ensures { IfOk result (λ done. CompileAll done
-            (λ rs. Adds height (apply operator (rules_of rs)) self.old self.new)
+            (λ rs. Adds height (apply operator (rules_of rs)) self.old.code self.new.code)
             (item (tree_view a.now) (item (tree_view b.now) no_items))) }
     {
         let above = above(height, 1)?;
@@ -126,7 +124,7 @@ impl Code {
         requires second { IsOrdered (tree_view b.now) }
         requires third { IsOrdered (tree_view c.now) }
         ensures { IfOk result (λ done. CompileAll done
-            (λ rs. Adds height (apply operator (rules_of rs)) self.old self.new)
+            (λ rs. Adds height (apply operator (rules_of rs)) self.old.code self.new.code)
             (item (tree_view a.now) (item (tree_view b.now) (item (tree_view c.now) no_items)))) }
     {
         if !(is_lent(a) && is_lent(b)) {
@@ -159,7 +157,7 @@ impl Code {
         requires second { IsOrdered (tree_view b.now) }
         requires third { IsOrdered (tree_view c.now) }
         ensures { IfOk result (λ done. CompileAll done
-            (λ rs. AddsAlone height operator rs self.old self.new)
+            (λ rs. AddsAlone height operator rs self.old.code self.new.code)
             (item (tree_view a.now) (item (tree_view b.now) (item (tree_view c.now) no_items)))) }
     {
         let one = above(height, 1)?;
@@ -186,7 +184,7 @@ impl Code {
     ) -> Result<bool, AllocError>
         requires { IsOrdered (tree_view argument.now) }
         ensures { IfOk result (λ done. Compiles done
-            (λ r. KeepsOne height r self.old self.new) (tree_view argument.now)) }
+            (λ r. KeepsOne height r self.old.code self.new.code) (tree_view argument.now)) }
     {
         let above = above(height, 1)?;
         match self.operand(alloc, argument)? {
@@ -211,7 +209,7 @@ impl Code {
     ) -> Result<bool, AllocError>
         requires { AreOrdered (tree_items arguments.now) }
         ensures { IfOk result (λ done. CompileAll done
-            (λ rs. Keeps height rs self.old self.new) (tree_items arguments.now)) }
+            (λ rs. Keeps height rs self.old.code self.new.code) (tree_items arguments.now)) }
     {
         let mut left = arguments.len();
         'arguments: while left > 0 {
@@ -235,7 +233,7 @@ impl Code {
         requires other { all_literal (tree_items items.now) ≡ false }
         requires ordered { AreOrdered (tree_items items.now) }
         ensures { IfOk result (λ done. Compiles done
-            (λ r. Adds height r self.old self.new) (array (tree_items items.now))) }
+            (λ r. Adds height r self.old.code self.new.code) (array (tree_items items.now))) }
     {
         if let [only] = items {
             self.push(Step::Wrap)?;
@@ -259,7 +257,7 @@ impl Code {
         requires takes { takes operator (length arguments.now) ≡ true }
         requires ordered { AreOrdered (tree_items arguments.now) }
         ensures { IfOk result (λ done. CompileAll done
-            (λ rs. Adds height (apply operator (rules_of rs)) self.old self.new)
+            (λ rs. Adds height (apply operator (rules_of rs)) self.old.code self.new.code)
             (tree_items arguments.now)) }
     {
         match arguments {

@@ -1,6 +1,6 @@
 use Rattle.std.proofs.Common.{◌≡◌, drop}
 use Rattle.fp_base.specs.TreeView.{tree_items}
-use Rattle.fp_targeting.specs.Constant.{all_literal}
+use Rattle.fp_targeting.specs.Literal.{all_literal}
 use Rattle.fp_targeting.proofs.json.are_literals.Given as goal
 
 -- the items that are left decide as all do

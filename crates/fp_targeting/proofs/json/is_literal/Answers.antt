@@ -1,7 +1,7 @@
 use Rattle.std.proofs.Common.{◌≡◌, length, sym, ap, ◌∙◌, arith}
 use Rattle.fp_base.proofs.Views.{view-Object}
 use Rattle.fp_base.specs.TreeView.{tree_view}
-use Rattle.fp_targeting.specs.Constant.{is_literal}
+use Rattle.fp_targeting.specs.Literal.{is_literal}
 use Rattle.fp_targeting.proofs.Trees.{others-literal}
 use Rattle.fp_targeting.proofs.json.is_literal.Goals as goal
 

@@ -2,7 +2,7 @@ use Rattle.std.proofs.Common.{◌≡◌, refl, rules}
 use Rattle.std.specs.Prelude.{Result}
 use Rattle.fp_operators.specs.Data as value
 use Rattle.fp_operators.specs.View.{view}
-use Rattle.fp_targeting.specs.Means.{Means}
+use Rattle.fp_machine.specs.Means.{Means}
 use Rattle.fp_definition.specs.Resolving.{Said, by_result, data_of}
 use Rattle.fp_definition.specs.declared.resolving.EvalFault.{EvalFault}
 use Rattle.fp_definition.proofs.Said.{spells}

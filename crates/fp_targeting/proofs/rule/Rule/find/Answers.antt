@@ -1,12 +1,12 @@
 use Rattle.std.proofs.Common.{◌≡◌, IfErr, sym, ap, ◌∙◌, subst, true}
 use Rattle.std.proofs.lemmas.Result.{IfOk-weaker}
-use Rattle.fp_targeting.specs.Found.{found_view}
-use Rattle.fp_targeting.specs.Memory.{needs_memory}
-use Rattle.fp_targeting.specs.Means.{Means}
-use Rattle.fp_targeting.specs.Meaning.{meaning}
-use Rattle.fp_targeting.specs.Operators.{well_formed}
-use Rattle.fp_targeting.specs.Reading.{rule_of_code}
-use Rattle.fp_targeting.proofs.OneResult.{Means-exists}
+use Rattle.fp_machine.specs.Found.{found_view}
+use Rattle.fp_machine.specs.Memory.{needs_memory}
+use Rattle.fp_machine.specs.Means.{Means}
+use Rattle.fp_machine.specs.Meaning.{meaning}
+use Rattle.fp_machine.specs.Operators.{well_formed}
+use Rattle.fp_machine.specs.Reading.{rule_of_code}
+use Rattle.fp_machine.proofs.OneResult.{Means-exists}
 use Rattle.fp_targeting.proofs.rule.Rule.find.Goals as goal
 
 pub returns-clause-means : goal.returns-clause-means

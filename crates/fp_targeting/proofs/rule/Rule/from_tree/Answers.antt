@@ -4,13 +4,13 @@ use Rattle.fp_targeting.proofs.Verdicts.{verdict-rule, refused-none}
 use Rattle.fp_targeting.proofs.rule.Rule.from_tree.Goals as goal
 
 pub invariant_of-result : goal.invariant_of-result
-invariant_of-result c = (c.in_ok-code.ensures.some c.in-Some.code c.in-Some.is).made.1
+invariant_of-result c = (c.in_ok-code.ensures.some c.in-Some-2.code c.in-Some-2.is).made.1
 
-pub returns-in-Some : goal.returns-in-Some
-returns-in-Some c =
+pub returns-in-Some-2 : goal.returns-in-Some-2
+returns-in-Some-2 c =
     let d = tree_view c.args.tree.now in
-    let x = c.in_ok-code.ensures.some c.in-Some.code c.in-Some.is in
-    verdict-rule d x.rule c.requires.flat (sym (ap is_some c.values_left.ensures) ∙ c.if-is_none.ensures)
+    let x = c.in_ok-code.ensures.some c.in-Some-2.code c.in-Some-2.is in
+    verdict-rule d x.rule c.requires.flat (sym (ap is_some c.values_left.ensures) ∙ ap is_some c.in-Some.is)
     c.requires.whole x.known x.is_rule ∙ ap Ok x.made.0
 
 pub returns-in-None : goal.returns-in-None

@@ -1,8 +1,8 @@
 use Rattle.std.proofs.Common.{◌≡◌, sym, ap, ◌∙◌, subst, true}
-use Rattle.fp_targeting.specs.Means.{Means}
-use Rattle.fp_targeting.specs.Meaning.{meaning}
-use Rattle.fp_targeting.specs.Operators.{well_formed}
-use Rattle.fp_targeting.proofs.OneResult.{Means-unique, Means-exists}
+use Rattle.fp_machine.specs.Means.{Means}
+use Rattle.fp_machine.specs.Meaning.{meaning}
+use Rattle.fp_machine.specs.Operators.{well_formed}
+use Rattle.fp_machine.proofs.OneResult.{Means-unique, Means-exists}
 use Rattle.fp_targeting.proofs.rule.Rule.one_result.Goals as goal
 
 pub returns : goal.returns

@@ -1,0 +1,6 @@
+pub mod Stacks
+pub mod Machines
+pub mod Frugal
+pub mod OneResult
+pub mod Paths
+pub mod Crossing

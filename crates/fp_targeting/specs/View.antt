@@ -1,7 +1,0 @@
--- Rules one after the other.
-use Rattle.std.specs.Prelude.{List, [], ◌∷◌}
-use Rattle.fp_targeting.specs.Rule.{Rule, Rules, no_rules, rule}
-
-abbrev pub rules_of : List Rule → Rules
-rules_of [] = no_rules
-rules_of (r ∷ rs) = rule r (rules_of rs)
