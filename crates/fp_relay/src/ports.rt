@@ -1,8 +1,8 @@
 //! The ports of a relay.
 
 use crate::events::{Event, tell, tell_failure};
-use fp_connections::Host;
 use crate::words::Options;
+use fp_connections::Host;
 use fp_loop::Listening;
 use fp_streams::{FailureCounted, StreamFault};
 use std::alloc::Global;

@@ -2,8 +2,8 @@
 
 use crate::events::{Event, tell, tell_failure};
 use crate::following::Showing;
-use fp_connections::Host;
 use crate::set::Set;
+use fp_connections::Host;
 use fp_kept::{KeptFile, KeptFiles};
 use fp_shown::Shown;
 use fp_stream::{Frame, Hello};

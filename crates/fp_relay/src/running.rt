@@ -1,9 +1,9 @@
 //! A relay over sockets, from its start to its end.
 
-use fp_connections::Host;
 use crate::ports::Ports;
 use crate::threads::Relaying;
 use crate::words::Options;
+use fp_connections::Host;
 use fp_kept::KeptFiles;
 use fp_streams::{FailureCounted, StreamFault};
 use std::alloc::AllocError;

@@ -1,8 +1,8 @@
 //! The thread that keeps the newest set in a file, beside those that show it.
 
 use crate::events::{Event, tell_failure};
-use fp_connections::Host;
 use crate::set::Set;
+use fp_connections::Host;
 use fp_kept::{KeptFile, KeptFiles, parts_of};
 use fp_loop::News;
 use std::alloc::Global;

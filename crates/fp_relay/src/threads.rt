@@ -1,7 +1,6 @@
 //! The threads of a relay: its loops, who lets connections in, who follows the source, who keeps.
 
 use crate::following::{Showing, follow_source};
-use fp_connections::{Counts, Host, Role};
 use crate::numbers::Numbers;
 use crate::ports::{Port, Ports};
 use crate::restoring::restored;
@@ -10,6 +9,7 @@ use crate::set::Set;
 use crate::shelf::Shelf;
 use crate::uplink::Uplink;
 use crate::words::Options;
+use fp_connections::{Counts, Host, Role};
 use fp_fronts::Growing;
 use fp_kept::{KeptFile, KeptFiles};
 use fp_loop::{Door, Informed, Limits, Listening, Loop, Loops};

@@ -6,11 +6,11 @@ ghost use Rattle.fp_server.specs.Attends.{Attends};
 ghost use Rattle.fp_server.specs.Tasks.{AsksFor};
 ghost use Rattle.fp_server.specs.declared.task.Task.{Task};
 
-use fp_connections::Host;
 use crate::serving::serve;
 use crate::task::{Task, task_of};
 use crate::watching::watch;
 use fp_commands::status_of;
+use fp_connections::Host;
 use fp_files::DiskFiles;
 use fp_http::TimeLimits;
 use fp_streams::FailureCounted;

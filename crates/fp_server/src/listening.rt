@@ -4,8 +4,8 @@ ghost use Rattle.std.specs.Prelude.{◌≡◌};
 
 use crate::connections::{Connections, Place};
 use crate::ended::Ended;
-use fp_connections::{Host, probe_peers};
 use crate::roles::{Role, converse};
+use fp_connections::{Host, probe_peers};
 use fp_disk::Disk;
 use fp_http::TimeLimits;
 use fp_log::{Event, Port, tell, tell_failure};

@@ -2,9 +2,9 @@
 
 use crate::ended::Ended;
 use crate::evaluations::{LentEvaluator, LoanFault};
-use fp_connections::Host;
 use crate::noted::Noted;
 use crate::serving::moment;
+use fp_connections::Host;
 use fp_disk::Disk;
 use fp_http::{Blocking, TimeLimits, serve_ofrep};
 use fp_log::Port;

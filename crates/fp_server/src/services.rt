@@ -5,10 +5,10 @@ ghost use Rattle.std.specs.Io.KnownBytes.{Appends, IsAtEnd};
 ghost use Rattle.fp_streams.specs.Failures.{CountsFailures};
 ghost use Rattle.fp_server.specs.Ends.{IsAttendingFault, SaysWhere, where_text};
 
-use fp_connections::Host;
 use crate::listening::Listening;
 use crate::roles::Role;
 use fp_commands::CommandFault;
+use fp_connections::Host;
 use fp_disk::Disk;
 use fp_http::TimeLimits;
 use fp_plane::{Naming, SealingPlane};

@@ -13,10 +13,10 @@ ghost use Rattle.fp_server.specs.Attends.{Serves};
 ghost use Rattle.fp_server.specs.Ends.{IsBrokenOff, IsBrokenStore, IsServedStore};
 ghost use Rattle.fp_server.specs.Ends.{IsServingFault, SaysWhere};
 
-use fp_connections::Host;
 use crate::services::{Addresses, Services, fault_of};
 use fp_commands::CommandFault;
 use fp_committer::{DeskHalf, StoreHalf};
+use fp_connections::Host;
 use fp_disk::Disk;
 use fp_files::DiskFiles;
 use fp_fronts::Growing;

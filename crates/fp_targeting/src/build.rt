@@ -32,11 +32,7 @@ const SPARE: usize = 4;
 /// The code of a rule of about so many JSON values, or none where the value is no rule or has an
 /// unknown operator. Mostly there is half an instruction and a quarter of a constant a value: so
 /// much room is taken at once, and what isn't needed is given back.
-pub fn code_of(
-    alloc: Global,
-    json: &Json<'_>,
-    values: usize,
-) -> Result<Option<Code>, AllocError>
+pub fn code_of(alloc: Global, json: &Json<'_>, values: usize) -> Result<Option<Code>, AllocError>
     requires ordered { IsOrdered (tree_view json.now) }
     requires few { count (tree_view json.now) ≤ MOST_RULE_VALUES }
     requires flat { depth (tree_view json.now) ≤ DEEPEST_RULE }
