@@ -1,22 +1,22 @@
 -- Code that reads no moment gives the same at any two.
-use Rattle.std.proofs.Common.{◌≡◌, ◌≢◌, ◌<◌, ◌==◌, ℕ, zero, suc, List, [], ◌∷◌, ◌++◌, length, get_or, Bool, true, false}
-use Rattle.std.proofs.Common.{not, ◌&&◌, ◌||◌, Option, Some, None, refl, sym, ap, ◌∙◌, subst, ne_eqb, Ordering, is_eq}
+use Rattle.std.proofs.Common.{◌≡◌, ℕ, zero, suc, List, [], ◌∷◌, Bool, true, false}
+use Rattle.std.proofs.Common.{not, ◌&&◌, Option, Some, None, refl, sym, ap, ◌∙◌, subst, Ordering, is_eq}
 use Rattle.std.proofs.Common.{Less, Equal, Greater}
-use Rattle.std.specs.Prelude.{bytes_eq, codes, option_and_then, option_map, if◌then◌else◌}
+use Rattle.std.specs.Prelude.{bytes_eq, codes, option_and_then, if◌then◌else◌}
 use Rattle.std.specs.Ordering.{nat_cmp}
 use Rattle.std.specs.Cmp.Lexicographic.{slice_cmp}
 use Rattle.std.proofs.lemmas.Map.Text.{is_eq-slice_cmp}
 use Rattle.std.proofs.lemmas.Slice.Eq.{bytes_eq-Decides}
-use Rattle.fp_operators.specs.Data.{Data, null, boolean, whole, text, list, object, Members, no_members, member, put}
+use Rattle.fp_operators.specs.Data.{Data, null, object, Members, no_members, member, put}
 use Rattle.fp_operators.specs.FromJson.{data_of}
-use Rattle.fp_operators.specs.Path.{parts, member_at, step_to, follow, at_text, found_or}
+use Rattle.fp_operators.specs.Path.{parts, member_at, follow, at_text, found_or}
 use Rattle.fp_machine.specs.Machine.{Env, path_at, look, act, run, Turn}
 use Rattle.fp_targeting.specs.RuleData.{flag_data, with_member, rule_data}
 use Rattle.fp_machine.specs.Sound.{IsSound}
 use Rattle.fp_machine.specs.Reading.{env_of, in_order, rule_of_code}
 use Rattle.fp_machine.specs.Stack.{onto}
 use Rattle.fp_machine.specs.declared.code.Code.{Code}
-use Rattle.fp_machine.specs.Split.{own_key, flag_key, targeting_key}
+use Rattle.fp_machine.specs.Split.{own_key}
 use Rattle.fp_machine.specs.declared.code.Operand.{Operand}
 use Rattle.fp_machine.specs.declared.code.Operand.TheVariants.{Constant, Variable, All, AtHand}
 use Rattle.fp_machine.specs.declared.code.Step.{Step}

@@ -5,7 +5,7 @@ ghost use Rattle.fp_machine.specs.declared.code.Step.TheVariants.{End};
 ghost use Rattle.fp_targeting.specs.Emits.{Pushed, Raised};
 
 use fp_machine::{Code, Operator, Step};
-use std::alloc::{AllocError, Global};
+use std::alloc::AllocError;
 
 /// Code that is being built: what is added last is done first.
 #[derive(Drop)]

@@ -9,7 +9,7 @@ ghost use Rattle.fp_operators.specs.FromJson.{data_of};
 ghost use Rattle.fp_targeting.specs.Compiles.{IsCompiled, AreCompiled, is_plain, CompileSplit};
 ghost use Rattle.fp_targeting.specs.Emits.{Pushed, IsOperand, Adds, Finds, IsPlaced};
 ghost use Rattle.fp_targeting.specs.Emits.{Stands};
-ghost use Rattle.fp_machine.specs.Rule.{apply, literal, rule, no_rules};
+ghost use Rattle.fp_machine.specs.Rule.{apply, literal, rule};
 ghost use Rattle.fp_machine.specs.View.{rules_of};
 ghost use Rattle.fp_machine.specs.declared.code.Operand.{Operand};
 ghost use Rattle.fp_machine.specs.declared.code.Step.TheVariants.{LoadWhole};

@@ -1,4 +1,4 @@
-use Rattle.std.proofs.Common.{◌≡◌, sym, ap, ◌∙◌, arith}
+use Rattle.std.proofs.Common.{sym, ap, ◌∙◌, arith}
 use Rattle.std.proofs.lemmas.Str.Pattern.{split_parts}
 use Rattle.fp_operators.specs.Path.{parts}
 use Rattle.fp_machine.specs.Moment.{is_of_the_moment}

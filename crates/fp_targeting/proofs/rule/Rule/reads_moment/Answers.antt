@@ -1,4 +1,4 @@
-use Rattle.std.proofs.Common.{◌≡◌, sym, ◌∙◌, subst}
+use Rattle.std.proofs.Common.{sym, ◌∙◌, subst}
 use Rattle.fp_targeting.specs.Moment.{IsTimeless}
 use Rattle.fp_targeting.proofs.Moments.{code-timeless}
 use Rattle.fp_targeting.proofs.rule.Rule.reads_moment.Goals as goal
