@@ -6,6 +6,7 @@ use Rattle.std.proofs.Crossing.{crosses, Arc-send, Vec-send}
 use Rattle.std.proofs.alloc.Global.TheSendSync as heap
 use Rattle.std.proofs.marker.PhantomData.TheSendSync as phantom
 use Rattle.std.proofs.sync.Condvar.TheSendSync as condvar
+use Rattle.std.proofs.sync.atomic.AtomicUsize.TheSendSync as atomic
 use Rattle.fp_disk.specs.declared.disk.Disk as disk
 use Rattle.fp_fronts.proofs.growing.Growing.TheSendSync as growing
 use Rattle.fp_plane.proofs.Crossing.{desk_half_sent}
@@ -68,7 +69,7 @@ module _ (K R : RattleType) (k : naming.Ghosts K.Denot) (sr : IsSend R) where
         search (sendable, sr) depth 5,
         (
           search (sendable, crosses, hall_sent) depth 10,
-          (condvar.the_field_send, (bells.the_field_send, (condvar.the_field_send, tt))),
+          (atomic.the_field_send, (condvar.the_field_send, (bells.the_field_send, (condvar.the_field_send, tt)))),
         ),
       ))
 
@@ -78,7 +79,7 @@ module _ (K R : RattleType) (k : naming.Ghosts K.Denot) (sr : IsSend R) where
         search (sendable, yr) depth 5,
         (
           search (sendable, crosses, hall_sent) depth 10,
-          (condvar.the_field_sync, (bells.the_field_sync, (condvar.the_field_sync, tt))),
+          (atomic.the_field_sync, (condvar.the_field_sync, (bells.the_field_sync, (condvar.the_field_sync, tt)))),
         ),
       ))
 

@@ -245,6 +245,7 @@ impl<K: Naming, R: Wait + Clock + Drop> Plane<K, R> {
         for _ in shared.rt.forever() {
             match hall.draw(half) {
                 Ok(Some(_)) => {
+                    shared.note_waiting(&hall);
                     half.rest();
                     return true;
                 }
@@ -365,9 +366,11 @@ impl<K: Naming, R: Wait + Clock + Drop> Plane<K, R> {
             Err(refused) => return (Err(refused), false),
         };
         if let Ok(Some(_)) = hall.draw(half) {
+            shared.note_waiting(&hall);
             half.rest();
             return (Ok(ticket), true);
         }
+        shared.note_waiting(&hall);
         drop(hall);
         shared.work.notify_one();
         (Ok(ticket), false)

@@ -2,11 +2,14 @@
 //!
 //! Who was just told comes back with the next edit a moment after a flusher would draw: so four
 //! editors would be two groups of two, and each batch have half of them. Behind a batch of four
-//! edits at most the flusher lets them come back: it looks under the lock and yields, until as
-//! many edits wait as were told and waited meanwhile, for at most as long as sealing that batch
-//! took and at most 1,000 looks. Where somebody doesn't come, the next draw waits for nobody,
-//! then the next two, and so on up to 64. Behind a larger batch nobody is waited for, nor where
-//! one editor is alone.
+//! edits at most the flusher lets them come back: it looks and yields, until as many edits wait as
+//! were told and waited meanwhile, for at most three quarters as long as sealing that batch took
+//! and at most 250 looks. It looks without the lock, which those who come want, at a count that
+//! is noted as edits are handed in and drawn. The count is a hint: where it is wrong, a draw comes a
+//! little sooner or later, and what is drawn is what waits under the lock.
+//!
+//! Where somebody doesn't come, the next draw waits for nobody, then the next two, and so on up to
+//! 64. Behind a larger batch nobody is waited for, nor where one editor is alone.
 
 ghost use Rattle.std.specs.Prelude.{◌≡◌, ◌⊎◌, ◌<◌, ◌≤◌, ◌+◌, ◌-◌, length, true, false, MatchBool};
 ghost use Rattle.fp_plane.specs.declared.gathering.TheConstants.{MOST_AWAITED};
@@ -16,6 +19,7 @@ use crate::plane::Plane;
 use fp_disk::Disk;
 use fp_group_commit::Store;
 use std::sync::Wait;
+use std::sync::atomic::Ordering;
 use std::thread;
 use std::time::{Clock, Duration, Instant};
 
@@ -23,7 +27,10 @@ use std::time::{Clock, Duration, Instant};
 pub const MOST_AWAITED: usize = 4;
 
 // How often a flusher looks at most whether they came.
-const MOST_LOOKS: u32 = 1_000;
+const MOST_LOOKS: u32 = 250;
+
+// Of the time that sealing the batch took, one part of so many isn't waited.
+const PARTS_OF_WAIT: u32 = 4;
 
 // Before so many draws at most nobody is waited for, since somebody didn't come.
 const MOST_SKIPPED: u32 = 64;
@@ -139,6 +146,12 @@ impl Gathering {
         self.wanted
     }
 
+    // For how long is waited at most: three quarters of the time that sealing the batch took.
+    fn patience(&self) -> Duration {
+        let rest = self.most / PARTS_OF_WAIT;
+        self.most.saturating_sub(rest)
+    }
+
     /// Notes whether they came. Where they didn't, the next draws wait for nobody.
     pub fn note(&mut self, came: bool)
         // Where they came, no draws are skipped for it.
@@ -160,19 +173,20 @@ impl<K: Naming, R: Wait + Clock + Drop> Plane<K, R> {
     pub(crate) fn gather(&self, gathering: &mut Gathering) {
         let wanted = gathering.wanted();
         if wanted > 0 {
-            let came = self.come_within(wanted, gathering.most);
+            let came = self.come_within(wanted, gathering.patience());
             gathering.note(came);
         }
     }
 
-    // Whether so many edits wait before this time has passed, or the plane is to stop.
+    // Whether so many edits wait before this time has passed, by the count that is noted of them.
+    // That the plane is to stop isn't looked for: the draw behind it sees that.
     fn come_within(&self, wanted: usize, most: Duration) -> bool {
         let shared = &self.shared;
         let Ok(begun) = Instant::now(&shared.rt) else {
             return false;
         };
         for _ in 0..MOST_LOOKS {
-            if self.has_come(wanted) {
+            if shared.waiting.load(Ordering::SeqCst) >= wanted {
                 return true;
             }
             match begun.elapsed(&shared.rt) {
@@ -181,11 +195,5 @@ impl<K: Naming, R: Wait + Clock + Drop> Plane<K, R> {
             }
         }
         false
-    }
-
-    // Whether so many edits wait, or the plane is to stop.
-    fn has_come(&self, wanted: usize) -> bool {
-        let hall = self.shared.hall.lock(&self.shared.rt);
-        hall.is_closing() || hall.waiting_count() >= wanted
     }
 }

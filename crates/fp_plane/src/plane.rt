@@ -23,6 +23,7 @@ use fp_group_commit::Told;
 use fp_publish::{Evaluator, Seat, SeatsUsed, Shown};
 use fp_stream::Hello;
 use std::alloc::{AllocError, Global};
+use std::sync::atomic::{AtomicUsize, Ordering};
 use std::sync::{Arc, Condvar, Mutex, MutexGuard, Wait};
 
 // What the handles of a plane share.
@@ -30,12 +31,22 @@ use std::sync::{Arc, Condvar, Mutex, MutexGuard, Wait};
 pub(crate) struct Shared<K: Naming, R: Wait + Drop> {
     pub(crate) rt: R,
     pub(crate) hall: Mutex<Hall<K, R>>,
+    // How many edits waited when one was handed in or a batch drawn last: a hint, read without the
+    // hall's lock by a flusher that lets editors come back.
+    pub(crate) waiting: AtomicUsize,
     // For the flusher: an edit waits, or the plane is to stop.
     pub(crate) work: Condvar,
     // For editors: the edit of a revision was settled and shown, or the plane is over.
     pub(crate) bells: Bells,
     // For subscribers, and for who stops the plane: something was shown, or the plane is over.
     pub(crate) news: Condvar,
+}
+
+impl<K: Naming, R: Wait + Drop> Shared<K, R> {
+    // Notes how many edits wait, under the lock, for who looks without it.
+    pub(crate) fn note_waiting(&self, hall: &Hall<K, R>) {
+        self.waiting.store(hall.waiting_count(), Ordering::SeqCst);
+    }
 }
 
 /// A handle of a plane: one desk and one board under a lock, which editors, evaluators, subscribers
@@ -58,6 +69,7 @@ impl<K: Naming, R: Wait + Copy + Drop> Plane<K, R> {
         let shared = Shared {
             rt,
             hall: Mutex::new(hall),
+            waiting: AtomicUsize::new(0),
             work: Condvar::new(),
             bells: Bells::new(alloc)?,
             news: Condvar::new(),
@@ -91,7 +103,10 @@ impl<K: Naming, R: Wait + Drop> Plane<K, R> {
         ensures given_back { IfErr result (λ e. e.1 ≡ edit) }
     {
         let shared = &self.shared;
-        let submitted = shared.hall.lock(&shared.rt).submit(edit);
+        let mut hall = shared.hall.lock(&shared.rt);
+        let submitted = hall.submit(edit);
+        shared.note_waiting(&hall);
+        drop(hall);
         shared.work.notify_one();
         submitted
     }
