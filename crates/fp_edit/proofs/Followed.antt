@@ -7,7 +7,7 @@ use Rattle.std.proofs.Math.Seq.{take-suc}
 use Rattle.std.specs.List.{AllByRecursion}
 use Rattle.fp_base.specs.Tests.{first_failed}
 use Rattle.fp_edit.specs.Admits.{refusal, next, present, is_as_expected, keys, keys_from, has_room, has_revision}
-use Rattle.fp_edit.specs.Edits.{Change, one, set, Proposal, single, joint, change_in}
+use Rattle.fp_edit.specs.Edits.{Change, one, set, parts, Proposal, single, joint, change_in}
 use Rattle.fp_edit.specs.Parts.{Part, ProposedPart, free, parts_of}
 use Rattle.fp_edit.specs.Flags.{State}
 use Rattle.fp_edit.specs.Following.{Follows, change_of, changes_of, unconditional}
@@ -73,6 +73,15 @@ all_expected s at (p ∷ ps) h =
 pub from_all_expected : (s : State) (at : ℕ) (ps : List ProposedPart) → AreExpected s ps → first_failed (keys_from s at ps) ≡ None
 from_all_expected s at [] h = refl
 from_all_expected s at (p ∷ ps) h = rw (h.0) (from_all_expected s (suc at) ps h.1)
+
+-- the same of a change by an editor that expects nothing
+pub keys_expected : (s : State) (c : Change) → AreExpected s (map free (parts c)) → first_failed (keys s (unconditional c)) ≡ None
+keys_expected s (one p) h = from_expected s (free p) h.0
+keys_expected s (set ps) h = from_all_expected s 0 (map free ps) h
+
+pub expected_keys : (s : State) (c : Change) → first_failed (keys s (unconditional c)) ≡ None → AreExpected s (map free (parts c))
+expected_keys s (one p) h = (as_expected s (free p) h, tt)
+expected_keys s (set ps) h = all_expected s 0 (map free ps) h
 
 -- ---- what is accepted
 module _ (s : State) (p : Proposal) where

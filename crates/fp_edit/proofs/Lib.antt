@@ -6,6 +6,7 @@ pub mod Followed
 pub mod Refusing
 pub mod Tallying
 pub mod Kept
+pub mod Lending
 pub mod Meeting
 pub mod Noting
 pub mod Outlined

@@ -13,9 +13,10 @@ use Rattle.fp_edit.specs.Admits.{part_after, parts_after}
 use Rattle.fp_edit.specs.Changes.{are_distinct, is_among}
 use Rattle.fp_edit.specs.Puts.{any_new, deletes_of, puts_of, with_flag, definition_or, definition_before}
 use Rattle.fp_edit.specs.Flags.{Flags}
+use Rattle.fp_edit.specs.Lent.{left_at}
 use Rattle.fp_edit.specs.Parts.{Part, any_put, put, delete, part_key}
 use Rattle.fp_documents.specs.declared.flags.Flag.{Flag}
-use Rattle.fp_edit.proofs.Parts.{apart, get-part, left_at, other_key, same_key}
+use Rattle.fp_edit.proofs.Parts.{apart, get-part, other_key, same_key}
 use Rattle.fp_documents.proofs.Sizes.{at_key, removed_none}
 
 -- ---- one part, and back

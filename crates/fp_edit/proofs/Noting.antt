@@ -11,9 +11,10 @@ use Rattle.std.proofs.lemmas.Slice.Eq.{bytes_eq-Decides}
 use Rattle.fp_base.specs.Bytes.{bytes_cmp}
 use Rattle.fp_edit.specs.Admits.{part_after}
 use Rattle.fp_edit.specs.Flags.{Flags, cost_found}
+use Rattle.fp_edit.specs.Lent.{left_at}
 use Rattle.fp_edit.specs.Noted.{AreNoted, noted_at}
 use Rattle.fp_edit.specs.Parts.{Part, part_key}
-use Rattle.fp_edit.proofs.Parts.{apart, get-other, get-own, left_at}
+use Rattle.fp_edit.proofs.Parts.{apart, get-other, get-own}
 
 abbrev Notes : Type 0
 Notes = BTreeMap (Bor (List ℕ)) ℕ

@@ -1,6 +1,6 @@
 -- What several parts make of flags.
 use Rattle.std.proofs.Common.{◌≡◌, ◌≢◌, ◌<◌, ◌+◌, ◌||◌, not, ℕ, Bool, true, false, true≢false, List, [], ◌∷◌, ◌++◌}
-use Rattle.std.proofs.Common.{length, map, take, drop, get_or, Option, None, Some, cond, refl, sym, ap, ◌∙◌, arith}
+use Rattle.std.proofs.Common.{length, map, take, drop, get_or, Option, Some, cond, refl, sym, ap, ◌∙◌, arith}
 use Rattle.std.specs.Prelude.{bytes_eq}
 use Rattle.std.specs.Ordering.{eq_by_cmp}
 use Rattle.std.specs.Cmp.{Equal-is}
@@ -18,6 +18,7 @@ use Rattle.fp_base.proofs.Turns.{drop-here, take-here}
 use Rattle.fp_edit.specs.Admits.{part_after, parts_after}
 use Rattle.fp_edit.specs.Changes.{are_distinct, is_among}
 use Rattle.fp_edit.specs.Flags.{Flags, cost_found, one_found, size}
+use Rattle.fp_edit.specs.Lent.{left_at}
 use Rattle.fp_edit.specs.Parts.{Part, put, delete, free, part_key, parts_of, proposed_of}
 use Rattle.fp_edit.specs.declared.edit.Change as code
 use Rattle.fp_documents.specs.declared.flags.Flag.{Flag}
@@ -41,11 +42,6 @@ differ : (q k : List ℕ) → eq_by_cmp bytes_cmp q k ≡ false → bytes_eq q k
 differ q k other = unequal q k (λ same. true≢false (sym (ap (eq_by_cmp bytes_cmp q) (sym same) ∙ same_key q) ∙ other))
 
 -- ---- one part
--- what a part leaves at its key
-abbrev pub left_at : ℕ → Part → Option Flag
-left_at r (put k text) = Some (record { definition = text; changed = r })
-left_at r (delete k) = None
-
 pub get-part : (r : ℕ) (m : Flags) (p : Part) (q : List ℕ) →
     fin.get (part_after r m p) q ≡ cond (eq_by_cmp bytes_cmp q (part_key p)) (left_at r p) (fin.get m q)
 get-part r m (put k text) q = fin.get-insert nat_list_cmp_total m k (record { definition = text; changed = r }) q

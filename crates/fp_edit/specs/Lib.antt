@@ -7,6 +7,7 @@ pub mod Flags
 pub mod Following
 pub mod Keys
 pub mod Laws
+pub mod Lent
 pub mod Line
 pub mod Log
 pub mod Noted

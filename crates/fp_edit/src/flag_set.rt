@@ -359,16 +359,6 @@ impl FlagSet {
         cost_at(&self.flags, key)
     }
 
-    fn next_flag(&self, definition: Definition) -> Flag
-        requires { has_revision self.now ≡ true }
-        ensures { result ≡ record { definition = definition; changed = self.now.revision + 1 } }
-    {
-        Flag {
-            definition,
-            changed: self.revision + 1,
-        }
-    }
-
     fn put(&mut self, key: FlagKey, flag: Definition) -> Result<(), (FlagKey, Definition)>
         requires revision { has_revision self.old ≡ true }
         requires room { has_room self.old (one (put (key_bytes key) flag)) ≡ true }
@@ -376,8 +366,11 @@ impl FlagSet {
         ensures unchanged { OnErr result (self.new ≡ self.old) }
         ensures given_back { IfErr result (λ p. p ≡ (key, flag)) }
     {
-        let flag = self.next_flag(flag);
-        let revision = flag.changed;
+        let revision = self.revision + 1;
+        let flag = Flag {
+            definition: flag,
+            changed: revision,
+        };
         match self.store_at(key, flag, revision) {
             Ok(()) => Ok(()),
             Err(e) => {

@@ -1,13 +1,11 @@
 //! Edits that follow one another, whatever their editors expected.
 
 ghost use Rattle.std.specs.Prelude.{◌≡◌, ◌↔◌, length, vec_len, IfOk, IfSome, IfNone, OnOk, IsTrue};
-ghost use Rattle.std.specs.Prelude.{MatchOption, None, map as list_map, true};
+ghost use Rattle.std.specs.Prelude.{MatchOption, None, true};
 ghost use Rattle.std.specs.FinMap as map;
 ghost use Rattle.fp_definition.specs.Key.{key_bytes};
 ghost use Rattle.fp_edit.specs.Admits.{next, refusal};
-ghost use Rattle.fp_edit.specs.Changes.{set_fault};
-ghost use Rattle.fp_edit.specs.Edits.{proposal_of, set};
-ghost use Rattle.fp_edit.specs.Parts.{parts_of, proposed_of};
+ghost use Rattle.fp_edit.specs.Edits.{proposal_of};
 ghost use Rattle.fp_edit.specs.Flags.{State, cost_found};
 ghost use Rattle.fp_edit.specs.Following.{Follows, IsTallyAbove, IsTallyOf, change_of};
 ghost use Rattle.fp_edit.specs.Following.{changes_of, unconditional};
@@ -17,9 +15,8 @@ ghost use Rattle.fp_edit.specs.Noted.{IsNoted};
 use crate::costs::Costs;
 use crate::edit::{Change, Edit, Expect};
 use crate::flag_set::FlagSet;
-use crate::tally::{
-    Sums, Tally, judged_delete, judged_put, judged_sums, key_cost, most_after, sums_after,
-};
+use crate::lent::EditParts;
+use crate::tally::{Tally, judged_sums, key_cost, most_after, sums_after, sums_of};
 use fp_definition::FlagKey;
 use std::alloc::{AllocError, Global};
 use std::collections::VecDeque;
@@ -129,8 +126,11 @@ impl FlagSet {
         ensures { IsTrue result ↔ (Follows self.now (changes_of ahead.now)
             × Follows (after_all self.now (changes_of ahead.now)) (changes_of edits.now)) }
     {
-        if self.fits_as_new(ahead, edits) {
-            return true;
+        // Mostly all put flags, there is room whatever stands at their keys, and nothing is looked up.
+        if let Some(most) = most_behind(self.tally(), ahead) {
+            if most_behind(most, edits).is_some() {
+                return true;
+            }
         }
         let mut costs = Costs::new(self.alloc());
         let Some(tally) = self.tally_behind(&[], &mut costs, self.tally(), ahead) else {
@@ -139,22 +139,7 @@ impl FlagSet {
         self.tally_behind(ahead, &mut costs, tally, edits).is_some()
     }
 
-    // Whether it's seen without a look-up that the set accepts them: all put flags, and mostly there is
-    // room whatever stands at their keys.
-    fn fits_as_new(&self, ahead: &[Edit], edits: &[Edit]) -> bool
-        ensures { result ≡ true → Follows self.now (changes_of ahead.now)
-            × Follows (after_all self.now (changes_of ahead.now)) (changes_of edits.now) }
-    {
-        let Some(most) = most_behind(self.tally(), ahead) else {
-            return false;
-        };
-        match most_behind(most, edits) {
-            Some(_) => true,
-            None => false,
-        }
-    }
-
-    fn tally(&self) -> Tally
+    pub(crate) fn tally(&self) -> Tally
         ensures { IsTallyOf result self.now }
     {
         Tally {
@@ -217,20 +202,17 @@ impl FlagSet {
             (after_all (after_all self.now (changes_of ahead.now)) (changes_of before.now))
             (change_of edit.now))) }
     {
-        match edit {
-            Edit::Put { key, flag, .. } => {
-                judged_put(
-                    tally,
-                    self.found_behind(ahead, before, costs, key),
-                    key,
-                    flag,
-                )
+        let parts = EditParts::new(edit);
+        let mut sums = sums_of(tally);
+        for i in 0..parts.len() {
+            let part = parts.lend(i);
+            let found = self.found_behind(ahead, before, costs, part.key);
+            if part.flag.is_none() && found == 0 {
+                return None;
             }
-            Edit::Delete { key, .. } => {
-                judged_delete(tally, self.found_behind(ahead, before, costs, key), key)
-            }
-            Edit::Set(changes) => self.judged_set(ahead, before, costs, tally, changes.as_slice()),
+            sums = sums_after(sums, part, found);
         }
+        judged_sums(tally, sums, parts.puts_any())
     }
 
     // What a key's flag takes behind those edits: as it is noted, or where there was no memory for that,
@@ -256,50 +238,6 @@ impl FlagSet {
             Some(cost) => *cost,
             None => self.cost_at(key),
         }
-    }
-
-    // The same of the changes of a set.
-    fn judged_set<'a>(
-        &self,
-        ahead: &[Edit],
-        before: &[Edit],
-        costs: &Costs<'a>,
-        tally: Tally,
-        changes: &'a [Change],
-    ) -> Option<Tally>
-        requires tally { IsTallyOf tally
-            (after_all (after_all self.now (changes_of ahead.now)) (changes_of before.now)) }
-        requires noted { IsNoted costs.now self.now
-            (after_all (after_all self.now (changes_of ahead.now)) (changes_of before.now)) }
-        requires lawful { set_fault (parts_of (list_map proposed_of changes.now)) ≡ None }
-        ensures { MatchOption result
-            (refusal (after_all (after_all self.now (changes_of ahead.now)) (changes_of before.now))
-            (unconditional (set (parts_of (list_map proposed_of changes.now)))) ≡ None → ⊥)
-            (λ t. (refusal
-            (after_all (after_all self.now (changes_of ahead.now)) (changes_of before.now))
-            (unconditional (set (parts_of (list_map proposed_of changes.now)))) ≡ None)
-            × IsTallyOf t (next
-            (after_all (after_all self.now (changes_of ahead.now)) (changes_of before.now))
-            (set (parts_of (list_map proposed_of changes.now))))) }
-    {
-        let mut sums = Sums {
-            count: tally.count as u128,
-            size: tally.size as u128,
-        };
-        let mut is_bound = false;
-        for change in changes {
-            let found = self.found_behind(ahead, before, costs, change.key());
-            match change {
-                Change::Put { .. } => is_bound = true,
-                Change::Delete { .. } => {
-                    if found == 0 {
-                        return None;
-                    }
-                }
-            }
-            sums = sums_after(sums, change, found);
-        }
-        judged_sums(tally, sums, is_bound)
     }
 
     /// Takes into the set the edits that are ahead of it, from the front. Where memory is wanting

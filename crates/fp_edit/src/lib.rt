@@ -9,6 +9,7 @@ mod following;
 mod judging;
 mod keys;
 mod laws;
+mod lent;
 mod line;
 mod one_flag;
 mod tally;
