@@ -60,7 +60,8 @@ pub(crate) fn sums_after(sums: Sums, part: LentPart<'_>, found: u128) -> Sums
     ensures grown { (result.count ≤ sums.count + 1) × (result.size ≤ sums.size + 2 ^ 66) }
     ensures after { (revision : ℕ) (flags : Flags) → sums.count ≡ map.len flags
         → sums.size ≡ size_of flags
-        → found ≡ cost_found (part_key (lent part.entry).part) (map.get flags (part_key (lent part.entry).part))
+        → found ≡ cost_found (part_key (lent part.entry).part)
+        (map.get flags (part_key (lent part.entry).part))
         → (result.count ≡ map.len (part_after revision flags (lent part.entry).part))
         × (result.size ≡ size_of (part_after revision flags (lent part.entry).part)) }
     ensures most { found ≡ 0 → (revision : ℕ) (flags : Flags) → map.len flags ≤ sums.count

@@ -1,4 +1,5 @@
-use Rattle.std.proofs.Common.{◌≡◌, ◌<◌, ◌≤◌, ◌+◌, ⊎_elim, true≢false, ℕ, List, true, false, not, length, take, sym, ap, subst, ◌∙◌, rules, arith}
+use Rattle.std.proofs.Common.{◌≡◌, ◌<◌, ◌≤◌, ◌+◌, ⊎_elim, true≢false, ℕ, List, true, false, not, length, take, sym, ap, subst}
+use Rattle.std.proofs.Common.{◌∙◌, rules, arith}
 use Rattle.std.specs.Prelude.{MatchOption, None, is_some}
 use Rattle.std.specs.FinMap as fin
 use Rattle.std.proofs.lemmas.List.{take_all}
@@ -45,7 +46,8 @@ module _ (c : After-found_behind-found) where
   -- no part so far is of that key
   found_still : c.found_behind-found.result ≡ cost_found (part_key One) (fin.get Before (part_key One))
   found_still = found_is ∙ ap (cost_found (part_key One))
-      (sym (get-before All c.loop-i.i One within c.lend-part.ensures.part (Here.revision + 1) Here.flags c.new-parts.ensures.lawful.distinct))
+      (sym (get-before All c.loop-i.i One within c.lend-part.ensures.part (Here.revision + 1) Here.flags
+      c.new-parts.ensures.lawful.distinct))
 
 pub returns-then-found-eq0 : goal.returns-then-found-eq0
 returns-then-found-eq0 c = λ accepted.

@@ -28,9 +28,11 @@ module _ (c : After-cost_at) where
   -- what was found in the set stands there still
   found_is : c.cost_at.result ≡ cost_found (part_key One) (fin.get Passed (part_key One))
   found_is = c.cost_at.ensures
-      ∙ ap (λ (k : List ℕ). cost_found k (fin.get c.args.self.now.flags k)) (sym (key_with (key_bytes c.lend-part.result.key.now) c.lend-part.result.flag))
+      ∙ ap (λ (k : List ℕ). cost_found k (fin.get c.args.self.now.flags k))
+      (sym (key_with (key_bytes c.lend-part.result.key.now) c.lend-part.result.flag))
       ∙ ap (cost_found (part_key One)) (sym
-      (get-before All c.loop-i.i One within c.lend-part.ensures.part (c.args.self.now.revision + 1) c.args.self.now.flags c.requires.distinct))
+      (get-before All c.loop-i.i One within c.lend-part.ensures.part (c.args.self.now.revision + 1)
+      c.args.self.now.flags c.requires.distinct))
 
 pub sums_after-sums-requires-clause-found : goal.sums_after-sums-requires-clause-found
 sums_after-sums-requires-clause-found c = let found = found_is c in
