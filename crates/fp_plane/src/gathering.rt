@@ -4,7 +4,7 @@
 //! editors would be two groups of two, and each batch have half of them. Behind a batch of four
 //! edits at most the flusher lets them come back: it looks and yields, until as many edits wait as
 //! were told and waited meanwhile, for at most three quarters as long as sealing that batch took
-//! and at most 250 looks. It looks without the lock, which those who come want, at a count that
+//! and at most 500 looks. It looks without the lock, which those who come want, at a count that
 //! is noted as edits are handed in and drawn. The count is a hint: where it is wrong, a draw comes a
 //! little sooner or later, and what is drawn is what waits under the lock.
 //!
@@ -27,7 +27,7 @@ use std::time::{Clock, Duration, Instant};
 pub const MOST_AWAITED: usize = 4;
 
 // How often a flusher looks at most whether they came.
-const MOST_LOOKS: u32 = 250;
+const MOST_LOOKS: u32 = 500;
 
 // Of the time that sealing the batch took, one part of so many isn't waited.
 const PARTS_OF_WAIT: u32 = 4;
