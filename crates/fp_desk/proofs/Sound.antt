@@ -8,10 +8,10 @@ use Rattle.fp_edit.specs.Flags.{State}
 use Rattle.fp_edit.specs.Log.{after_all}
 use Rattle.fp_edit.proofs.Runs.{revision-after_all}
 use Rattle.fp_edit.specs.Following.{unconditional}
-use Rattle.fp_edit.proofs.Followed.{freely, has_next}
-use Rattle.fp_edit.specs.Following.{Follows}
+use Rattle.fp_edit.proofs.Followed.{after-append, freely, has_next}
+use Rattle.fp_pending.specs.Following.{Follows}
 use Rattle.fp_group_commit.specs.Tokens.{Identity}
-use Rattle.fp_edit.proofs.Followed.{after-append, follows_join, follows_behind, follows_front}
+use Rattle.fp_pending.proofs.Following.{follows_join, follows_behind, follows_front}
 use Rattle.fp_desk.specs.declared.desk.TheConstants.{MOST_QUEUED}
 use Rattle.fp_desk.specs.Desk.{DeskState, IsSound, head, log, settled_set, settled_revision, unsettled_count}
 

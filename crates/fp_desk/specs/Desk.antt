@@ -11,7 +11,7 @@ use Rattle.fp_edit.specs.Numbers.{LONGEST_EDIT}
 use Rattle.fp_record.specs.Encoding.{batch_len}
 use Rattle.fp_record.specs.Numbers.{BATCH_HEAD, MOST_EDITS}
 use Rattle.fp_desk.specs.Numbers.{MOST_QUEUED}
-use Rattle.fp_edit.specs.Following.{Follows}
+use Rattle.fp_pending.specs.Following.{Follows}
 use Rattle.fp_group_commit.specs.Changes.{GoesOn}
 use Rattle.fp_group_commit.specs.Tokens.{FrontState, Identity, ReceiptState}
 use Rattle.fp_desk.specs.declared.fault.SubmitFault.{SubmitFault}

@@ -15,6 +15,7 @@ use crate::queue::{copies_of_front, first_part, fits_behind, move_front, same_ch
 use fp_edit::{Edit, EditFault, FlagSet};
 use fp_group_commit::{Draw, Opening, Receipt, Settled, Told};
 use fp_journal::FRAME;
+use fp_pending::catch_up;
 use std::alloc::{AllocError, Global};
 use std::collections::VecDeque;
 use std::marker::Model;
@@ -265,14 +266,14 @@ impl Desk {
         {
             return Err((SettleFault::Stranger, receipt));
         }
-        if self.base.catch_up(&mut self.lag).is_err() {
+        if catch_up(&mut self.base, &mut self.lag).is_err() {
             return Err((SettleFault::Memory, receipt));
         }
         self.settled.advance(receipt);
         mem::swap(&mut self.lag, &mut self.drawn);
 
         // Where memory is wanting here, the base goes on another time.
-        let _ = self.base.catch_up(&mut self.lag);
+        let _ = catch_up(&mut self.base, &mut self.lag);
         Ok(())
     }
 
@@ -330,7 +331,7 @@ impl Desk {
     {
         let mut copy = self.base.try_copy()?;
         let lag = copies_of_front(self.alloc, &self.lag, self.lag.len())?;
-        copy.catch_up(&mut VecDeque::from(lag))?;
+        catch_up(&mut copy, &mut VecDeque::from(lag))?;
         Ok(copy)
     }
 

@@ -1,6 +1,6 @@
--- Changes that follow one another, and edits taken one by one.
+-- The set behind many edits, the tests that an edit meets, and edits taken one by one.
 use Rattle.std.proofs.Common.{◌≡◌, ◌<◌, ◌+◌, ◌^◌, ℕ, Bool, true, false, cond, List, [], ◌∷◌, ◌++◌, length, map, take}
-use Rattle.std.proofs.Common.{drop, suc, add-one, get_or, None, Some, refl, sym, ap, subst, ◌∙◌, arith}
+use Rattle.std.proofs.Common.{drop, suc, add-one, get_or, None, Some, refl, sym, ap, ◌∙◌}
 use Rattle.std.proofs.lemmas.Bool.{and_from, and_parts, ltb-true}
 use Rattle.std.proofs.lemmas.List.{nil_from_length, take-append-drop, map-append}
 use Rattle.std.proofs.Math.Seq.{take-suc}
@@ -8,13 +8,14 @@ use Rattle.std.specs.List.{AllByRecursion}
 use Rattle.fp_base.specs.Tests.{first_failed}
 use Rattle.fp_edit.specs.Admits.{refusal, next, present, is_as_expected, keys, keys_from, has_room, has_revision}
 use Rattle.fp_edit.specs.Edits.{Change, one, set, parts, Proposal, single, joint, change_in}
-use Rattle.fp_edit.specs.Parts.{Part, ProposedPart, free, parts_of}
+use Rattle.fp_edit.specs.Parts.{ProposedPart, free, parts_of}
 use Rattle.fp_edit.specs.Flags.{State}
-use Rattle.fp_edit.specs.Following.{Follows, change_of, changes_of, unconditional}
+use Rattle.fp_edit.specs.Following.{change_of, changes_of, unconditional}
 use Rattle.fp_edit.specs.Log.{after_all}
 use Rattle.fp_edit.specs.declared.edit.Edit.{Edit}
 use Rattle.fp_edit.specs.declared.edit.EditFault.{EditFault}
 use Rattle.fp_edit.specs.declared.edit.EditFault.TheVariants.{Conflict, ConflictIn, SetTooLarge, RevisionsUsed}
+use Rattle.fp_edit.proofs.Parts.{parts_of-free}
 
 pub after-append : (s : State) (xs ys : List Change) → after_all s (xs ++ ys) ≡ after_all (after_all s xs) ys
 after-append s [] ys = refl
@@ -23,19 +24,6 @@ after-append s (x ∷ xs) ys = after-append (next s x) xs ys
 pub limit-after_all : (s : State) (cs : List Change) → (after_all s cs).limit ≡ s.limit
 limit-after_all s [] = refl
 limit-after_all s (c ∷ cs) = limit-after_all (next s c) cs
-
--- ---- one list behind another
-pub follows_join : (s : State) (xs ys : List Change) → Follows s xs → Follows (after_all s xs) ys → Follows s (xs ++ ys)
-follows_join s [] ys f g = g
-follows_join s (x ∷ xs) ys f g = (f.0, follows_join (next s x) xs ys f.1 g)
-
-pub follows_behind : (s : State) (xs ys : List Change) → Follows s (xs ++ ys) → Follows (after_all s xs) ys
-follows_behind s [] ys f = f
-follows_behind s (x ∷ xs) ys f = follows_behind (next s x) xs ys f.1
-
-pub follows_front : (s : State) (xs ys : List Change) → Follows s (xs ++ ys) → Follows s xs
-follows_front s [] ys f = tt
-follows_front s (x ∷ xs) ys f = (f.0, follows_front (next s x) xs ys f.1)
 
 -- ---- tests that are met
 met_first : (b : Bool) (f : EditFault) (ts : List (Bool × EditFault)) → cond b (first_failed ts) (Some f) ≡ None →
@@ -99,13 +87,9 @@ module _ (s : State) (p : Proposal) where
   has_next h = ltb-true _ _ (met h).2
 
 -- ---- without what is expected
-parts-free : (ps : List Part) → parts_of (map free ps) ≡ ps
-parts-free [] = refl
-parts-free (p ∷ ps) = ap (λ (qs : List Part). p ∷ qs) (parts-free ps)
-
 pub change-unconditional : (c : Change) → change_in (unconditional c) ≡ c
 change-unconditional (one p) = refl
-change-unconditional (set ps) = ap set (parts-free ps)
+change-unconditional (set ps) = ap set (parts_of-free ps)
 
 free_expected : (s : State) (p : ProposedPart) → is_as_expected s p ≡ true → is_as_expected s (free p.part) ≡ true
 free_expected s p h = and_from _ _ (and_parts _ _ h).0 refl
@@ -125,13 +109,6 @@ freely s p h =
     let room : has_room s (change_in (unconditional (change_in p))) ≡ true = ap (has_room s) (change-unconditional (change_in p)) ∙ all.1 in
     passes s (unconditional (change_in p)) (free_keys s p all.0) room all.2
 
--- there are revisions for all of them
-pub follows_small : (s : State) (xs : List Change) → s.revision < 2 ^ 63 → Follows s xs → s.revision + length xs < 2 ^ 63
-follows_small s [] small f = omega (arith, small)
-follows_small s (x ∷ xs) small f =
-    let here : s.revision + 1 < 2 ^ 63 = has_next s (unconditional x) f.0 in
-    let rest : s.revision + 1 + length xs < 2 ^ 63 = follows_small (next s x) xs here f.1 in omega (arith, rest)
-
 -- ---- a walk over edits
 pub taken_more : (xs : List Edit) (i : ℕ) (e : Edit) → i < length xs → e ≡ get_or xs i e →
     changes_of (take (i + 1) xs) ≡ changes_of (take i xs) ++ change_of e ∷ []
@@ -148,16 +125,3 @@ none_left xs h = ap changes_of (nil_from_length xs h)
 module _ (s : State) (xs : List Edit) (i : ℕ) (e : Edit) (lt : i < length xs) (is : e ≡ get_or xs i e) where
   pub one_after : after_all s (changes_of (take (i + 1) xs)) ≡ next (after_all s (changes_of (take i xs))) (change_of e)
   one_after = ap (λ (l : List Change). after_all s l) (taken_more xs i e lt is) ∙ after-append s (changes_of (take i xs)) (change_of e ∷ [])
-
-  pub one_follows : Follows s (changes_of (take i xs)) →
-      refusal (after_all s (changes_of (take i xs))) (unconditional (change_of e)) ≡ None →
-      Follows s (changes_of (take (i + 1) xs))
-  one_follows f h = subst (λ (l : List Change). Follows s l) (sym (taken_more xs i e lt is))
-      (follows_join s (changes_of (take i xs)) (change_of e ∷ []) f (h, tt))
-
-  pub one_accepted : Follows s (changes_of xs) → refusal (after_all s (changes_of (take i xs))) (unconditional (change_of e)) ≡ None
-  one_accepted all =
-      let here = follows_front s (changes_of (take (i + 1) xs)) (changes_of (drop (i + 1) xs))
-      (subst (λ (l : List Change). Follows s l) (all_taken xs (i + 1)) all) in
-      (follows_behind s (changes_of (take i xs)) (change_of e ∷ [])
-      (subst (λ (l : List Change). Follows s l) (taken_more xs i e lt is) here)).0

@@ -1,14 +1,11 @@
 pub mod Asking
-pub mod Bounding
 pub mod Changed
 pub mod Making
 pub mod Followed
 pub mod Refusing
-pub mod Tallying
 pub mod Kept
 pub mod Lending
 pub mod Meeting
-pub mod Noting
 pub mod Outlined
 pub mod Parts
 pub mod Runs

@@ -13,11 +13,10 @@ use Rattle.fp_base.specs.TreeView.{tree_view, tree_members, tree_items, Entry}
 use Rattle.fp_base.specs.declared.tree.Tree.{Tree, Object}
 use Rattle.fp_base.proofs.Views.{view-Object}
 use Rattle.fp_definition.specs.Faults.{tells}
-use Rattle.fp_edit.specs.Edits.{single, joint}
-use Rattle.fp_edit.specs.Parts.{ProposedPart, proposed_of, parts_of}
+use Rattle.fp_edit.specs.Edits.{single}
+use Rattle.fp_edit.specs.Parts.{ProposedPart, proposed_of}
 use Rattle.fp_edit.specs.Line as says
-use Rattle.fp_edit.specs.Changes.{is_count, set_fault}
-use Rattle.fp_edit.specs.declared.changes.SetFault.{SetFault}
+use Rattle.fp_edit.specs.Changes.{is_count}
 use Rattle.fp_edit.specs.Line.{Fault, parts_from, part_inside, set_of}
 use Rattle.fp_edit.specs.Spelled.{Tells, TellsPart, TellsInSet}
 use Rattle.fp_edit.specs.declared.edit.Change.{Change}
@@ -111,15 +110,6 @@ set_of_count ts counted = rw (item_count, counted) refl
 pub set_of_bad_count : (ts : List Tree) → is_count (length ts) ≡ false → says.set_of (Some (array (tree_items ts))) ≡ Err says.bad_set
 unfolding set_of
 set_of_bad_count ts bad = rw (item_count, bad) refl
-
--- these parts are joined, or aren't for what they lack
-pub joins_parts : (ps made : List ProposedPart) (r : Result (List ProposedPart) Fault) → r ≡ Ok ps → made ≡ ps →
-    set_fault (parts_of made) ≡ None → (r >>= says.joined) ≡ Ok (joint made)
-joins_parts ps made r read same lawful = rw (read, ← same, lawful) refl
-
-pub refuses_parts : (ps : List ProposedPart) (e : SetFault) (r : Result (List ProposedPart) Fault) → r ≡ Ok ps →
-    set_fault (parts_of ps) ≡ Some e → (r >>= says.joined) ≡ Err says.bad_set
-refuses_parts ps e r read lack = rw (read, lack) refl
 
 -- what was read comes before what the rest makes
 abbrev pub behind : List ProposedPart → Result (List ProposedPart) Fault → Result (List ProposedPart) Fault

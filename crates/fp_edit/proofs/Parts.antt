@@ -1,6 +1,6 @@
 -- What several parts make of flags.
-use Rattle.std.proofs.Common.{◌≡◌, ◌≢◌, ◌<◌, ◌+◌, ◌||◌, not, ℕ, Bool, true, false, true≢false, List, [], ◌∷◌, ◌++◌}
-use Rattle.std.proofs.Common.{length, map, take, drop, get_or, Option, Some, cond, refl, sym, ap, ◌∙◌, arith}
+use Rattle.std.proofs.Common.{◌≡◌, ◌≢◌, ◌<◌, ◌+◌, ◌||◌, not, ℕ, zero, suc, Bool, true, false, List, [], ◌∷◌, ◌++◌}
+use Rattle.std.proofs.Common.{length, map, take, drop, get_or, cond, refl, sym, ap, ◌∙◌, arith}
 use Rattle.std.specs.Prelude.{bytes_eq}
 use Rattle.std.specs.Ordering.{eq_by_cmp}
 use Rattle.std.specs.Cmp.{Equal-is}
@@ -9,9 +9,8 @@ use Rattle.std.proofs.lemmas.Bool.{and_parts, or_parts, or_from, not-true, false
 use Rattle.std.proofs.lemmas.Bool.Decides.{not_from_Decides}
 use Rattle.std.proofs.Math.Bool.{or_assoc}
 use Rattle.std.proofs.lemmas.Cmp.{nat_list_cmp_total, tied_itself}
-use Rattle.std.proofs.lemmas.List.{length-map, map-append, take-append-drop}
+use Rattle.std.proofs.lemmas.List.{map-append, take-append-drop}
 use Rattle.std.proofs.lemmas.Map.Lookups.{exact_bytes}
-use Rattle.std.proofs.Math.ListN.{get_or-map}
 use Rattle.std.proofs.lemmas.Slice.Eq.{bytes_eq-Decides}
 use Rattle.fp_base.specs.Bytes.{bytes_cmp}
 use Rattle.fp_base.proofs.Turns.{drop-here, take-here}
@@ -21,7 +20,6 @@ use Rattle.fp_edit.specs.Flags.{Flags, cost_found, one_found, size}
 use Rattle.fp_edit.specs.Lent.{left_at}
 use Rattle.fp_edit.specs.Parts.{Part, put, delete, free, part_key, parts_of, proposed_of}
 use Rattle.fp_edit.specs.declared.edit.Change as code
-use Rattle.fp_documents.specs.declared.flags.Flag.{Flag}
 use Rattle.fp_documents.proofs.Sizes.{size-insert, size-remove, count-insert, count-remove}
 
 -- ---- keys
@@ -37,9 +35,6 @@ apart q k other = not_from_Decides (bytes_eq q k) (bytes_eq-Decides q k) other
 
 unequal : (q k : List ℕ) → q ≢ k → bytes_eq q k ≡ false
 unequal q k never = false_from_ne_true _ (λ e. never ((bytes_eq-Decides q k).0 e))
-
-differ : (q k : List ℕ) → eq_by_cmp bytes_cmp q k ≡ false → bytes_eq q k ≡ false
-differ q k other = unequal q k (λ same. true≢false (sym (ap (eq_by_cmp bytes_cmp q) (sym same) ∙ same_key q) ∙ other))
 
 -- ---- one part
 pub get-part : (r : ℕ) (m : Flags) (p : Part) (q : List ℕ) →
@@ -79,32 +74,6 @@ get-apart r m (p ∷ ps) k none =
     let both = or_parts (bytes_eq k (part_key p)) (is_among k (map part_key ps)) none in
     get-apart r (part_after r m p) ps k both.1 ∙ get-other r m p k (apart k (part_key p) both.0)
 
--- where the test is met nothing of the rest matters
-cond_else : (b : Bool) (x y z : Option Flag) → (b ≡ false → y ≡ z) → cond b x y ≡ cond b x z
-cond_else true x y z same = refl
-cond_else false x y z same = same refl
-
--- flags that differ at most at keys of theirs become the same
-pub parts_after-same : (r : ℕ) (m n : Flags) (ps : List Part) →
-    ((q : List ℕ) → is_among q (map part_key ps) ≡ false → fin.get m q ≡ fin.get n q)
-    → parts_after r m ps ≡ parts_after r n ps
-parts_after-same r m n [] same = fin.same_map nat_list_cmp_total exact_bytes m n (λ q. same q refl)
-parts_after-same r m n (p ∷ ps) same = parts_after-same r (part_after r m p) (part_after r n p) ps (λ q none.
-    get-part r m p q
-    ∙ cond_else (eq_by_cmp bytes_cmp q (part_key p)) (left_at r p) (fin.get m q) (fin.get n q)
-    (λ e. same q (or_from (bytes_eq q (part_key p)) (is_among q (map part_key ps)) (differ q (part_key p) e)
-    none))
-    ∙ sym (get-part r n p q))
-
--- an insert at a key that one of them has is lost behind them
-pub parts_after-insert : (r : ℕ) (m : Flags) (k : List ℕ) (f : Flag) (ps : List Part) →
-    is_among k (map part_key ps) ≡ true → parts_after r (fin.insert m k f) ps ≡ parts_after r m ps
-parts_after-insert r m k f ps there = parts_after-same r (fin.insert m k f) m ps (λ q none.
-    fin.get-insert nat_list_cmp_total m k f q
-    ∙ ap (λ (b : Bool). cond b (Some f) (fin.get m q))
-    (other_key q k (λ same. true≢false
-    (sym there ∙ ap (λ (x : List ℕ). is_among x (map part_key ps)) (sym same) ∙ none))))
-
 -- ---- keys that are all others
 pub is_among-append : (k : List ℕ) (ks ls : List (List ℕ)) → is_among k (ks ++ ls) ≡ (is_among k ks || is_among k ls)
 is_among-append k [] ls = refl
@@ -140,6 +109,34 @@ module _ (ps : List Part) (i : ℕ) (p : Part) (within : i < length ps) (is : p 
       fin.get (parts_after r m (take i ps)) (part_key p) ≡ fin.get m (part_key p)
   get-before r m all = get-apart r m (take i ps) (part_key p) (is_among-before all)
 
+  -- a key that isn't its own either is none of those up to it
+  pub is_among-more : (k : List ℕ) → is_among k (map part_key (take i ps)) ≡ false → bytes_eq k (part_key p) ≡ false
+      → is_among k (map part_key (take (i + 1) ps)) ≡ false
+  is_among-more k none other =
+      ap (λ (qs : List Part). is_among k (map part_key qs)) (take-here ps i p within is)
+      ∙ ap (is_among k) (map-append part_key (take i ps) (p ∷ []))
+      ∙ is_among-append k (map part_key (take i ps)) (part_key p ∷ [])
+      ∙ or_from (is_among k (map part_key (take i ps))) (is_among k (part_key p ∷ [])) none
+      (or_from (bytes_eq k (part_key p)) false other refl)
+
+-- its key has what it left, since no other is of that key
+get-left : (r : ℕ) (m : Flags) (ps : List Part) (i : ℕ) (p : Part) → i < length ps → p ≡ get_or ps i p →
+    are_distinct (map part_key ps) ≡ true → fin.get (parts_after r m ps) (part_key p) ≡ left_at r p
+get-left r m [] i p within is all = absurd (omega (arith, within))
+get-left r m (x ∷ ps) zero p within is all =
+    let rest = and_parts (not (is_among (part_key x) (map part_key ps))) (are_distinct (map part_key ps)) all in
+    rw is (get-apart r (part_after r m x) ps (part_key x) (not-true (is_among (part_key x) (map part_key ps)) rest.0)
+    ∙ get-own r m x (part_key x) refl)
+get-left r m (x ∷ ps) (suc i) p within is all =
+    let rest = and_parts (not (is_among (part_key x) (map part_key ps))) (are_distinct (map part_key ps)) all in
+    get-left r (part_after r m x) ps i p (omega (arith, within)) is rest.1
+
+-- what a changed key takes is what the change to it left
+pub cost-left : (r : ℕ) (m : Flags) (ps : List Part) (i : ℕ) (p : Part) (k : List ℕ) → i < length ps → p ≡ get_or ps i p →
+    are_distinct (map part_key ps) ≡ true → k ≡ part_key p → cost_found k (fin.get (parts_after r m ps) k) ≡ cost_found k (left_at r p)
+cost-left r m ps i p k within is all same =
+    ap (cost_found k) (ap (fin.get (parts_after r m ps)) same ∙ get-left r m ps i p within is all)
+
 -- ---- the parts of changes
 pub parts_of-free : (ps : List Part) → parts_of (map free ps) ≡ ps
 parts_of-free [] = refl
@@ -147,14 +144,3 @@ parts_of-free (p ∷ ps) = ap (λ (l : List Part). p ∷ l) (parts_of-free ps)
 
 abbrev pub parts_in : List code.Change → List Part
 parts_in changes = parts_of (map proposed_of changes)
-
-pub length-parts_in : (changes : List code.Change) → length (parts_in changes) ≡ length changes
-length-parts_in changes = length-map (map proposed_of changes) (λ p. p.part) ∙ length-map changes proposed_of
-
-module _ (changes : List code.Change) (i : ℕ) (c : code.Change) (within : i < length changes) (is : c ≡ get_or changes i c) where
-  pub part_within : i < length (parts_in changes)
-  part_within = rw (length-parts_in) within
-
-  pub part_is : (proposed_of c).part ≡ get_or (parts_in changes) i (proposed_of c).part
-  part_is = sym (get_or-map (λ p. p.part) (map proposed_of changes) i (proposed_of c) ∙
-      ap (λ p. p.part) (get_or-map proposed_of changes i c ∙ ap proposed_of (sym is)))

@@ -1,10 +1,8 @@
 -- What the tests of a set say.
 use Rattle.std.proofs.Common.{◌≡◌, Bool, true, false, List, [], ◌∷◌, length, map, None, refl}
 use Rattle.std.specs.Prelude.{nat_le}
-use Rattle.std.proofs.lemmas.Bool.{and_parts, leb-true}
 use Rattle.fp_base.specs.Tests.{first_failed}
 use Rattle.fp_edit.specs.Changes.{are_distinct, is_count, set_fault, set_len}
-use Rattle.fp_edit.specs.Lent.{AreApart}
 use Rattle.fp_edit.specs.Parts.{Part, part_key}
 use Rattle.fp_edit.specs.declared.changes.SetFault.{SetFault}
 use Rattle.fp_edit.specs.declared.changes.SetFault.TheVariants.{BadCount, RepeatedKey, TooLong}
@@ -23,9 +21,3 @@ set-met ps lawful = all_met (is_count (length ps)) (are_distinct (map part_key p
 
 pub set-distinct : (ps : List Part) → set_fault ps ≡ None → are_distinct (map part_key ps) ≡ true
 set-distinct ps lawful = (set-met ps lawful).1
-
-pub set-apart : (ps : List Part) → set_fault ps ≡ None → AreApart ps
-set-apart ps lawful = record {
-  few = leb-true _ _ (and_parts _ _ (set-met ps lawful).0).1;
-  distinct = set-distinct ps lawful;
-}

@@ -10,7 +10,6 @@ pub mod Laws
 pub mod Lent
 pub mod Line
 pub mod Log
-pub mod Noted
 pub mod Outline
 pub mod Parts
 pub mod Puts

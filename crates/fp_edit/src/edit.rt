@@ -1,7 +1,12 @@
 //! Edits of a set of flags.
 
+ghost use Rattle.std.specs.Prelude.{◌≡◌, IfOk};
+ghost use Rattle.fp_edit.specs.Edits.{proposal_of};
+ghost use Rattle.fp_edit.specs.Following.{change_of, unconditional};
+
 use crate::changes::Changes;
 use fp_definition::{Definition, FlagKey};
+use std::alloc::AllocError;
 use thiserror::Error;
 
 /// The first number that is no revision: revisions are 1 to 2^63 - 1.
@@ -72,4 +77,51 @@ pub enum EditFault {
     /// Memory ran out.
     #[error("memory ran out")]
     Memory,
+}
+
+impl From<Change> for Edit {
+    ghost use Rattle.std.specs.Prelude.{◌≡◌};
+    ghost use Rattle.fp_edit.specs.Edits.{proposal_of, single};
+    ghost use Rattle.fp_edit.specs.Parts.{proposed_of};
+
+    ghost from_gives = { λ change edit. proposal_of edit ≡ single (proposed_of change) };
+
+    fn from(change: Change) -> Edit {
+        match change {
+            Change::Put { key, flag, expect } => Edit::Put { key, flag, expect },
+            Change::Delete { key, expect } => Edit::Delete { key, expect },
+        }
+    }
+}
+
+impl Edit {
+    /// The same change by an editor that expects nothing.
+    pub fn unconditional(self) -> Edit
+        ensures { proposal_of result ≡ unconditional (change_of self) }
+    {
+        let expect = Expect::Any;
+        match self {
+            Edit::Put { key, flag, .. } => Edit::Put { key, flag, expect },
+            Edit::Delete { key, .. } => Edit::Delete { key, expect },
+            Edit::Set(changes) => Edit::Set(changes.unconditional()),
+        }
+    }
+
+    /// An equal edit, which shares the definitions.
+    pub fn try_copy(&self) -> Result<Edit, AllocError>
+        ensures { IfOk result (λ copy. proposal_of copy ≡ proposal_of self.now) }
+    {
+        match self {
+            Edit::Put { key, flag, expect } => Ok(Edit::Put {
+                key: key.try_copy()?,
+                flag: flag.try_copy()?,
+                expect: *expect,
+            }),
+            Edit::Delete { key, expect } => Ok(Edit::Delete {
+                key: key.try_copy()?,
+                expect: *expect,
+            }),
+            Edit::Set(changes) => Ok(Edit::Set(changes.try_copy()?)),
+        }
+    }
 }

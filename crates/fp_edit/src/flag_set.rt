@@ -347,12 +347,8 @@ impl FlagSet {
         Ok(())
     }
 
-    pub(crate) fn alloc(&self) -> Global {
-        self.alloc
-    }
-
-    // What the key's flag takes in the image, 0 without one.
-    pub(crate) fn cost_at(&self, key: &FlagKey) -> u128
+    /// What the key's flag takes in the image, 0 without one.
+    pub fn cost_at(&self, key: &FlagKey) -> u128
         ensures { result ≡ cost_found (key_bytes key.now)
             (map.get self.now.flags (key_bytes key.now)) }
     {

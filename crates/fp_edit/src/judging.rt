@@ -1,6 +1,6 @@
 //! What stands against an edit of a set.
 
-ghost use Rattle.std.specs.Prelude.{◌≡◌, ◌&&◌, ℕ, true, false, MatchOption, nat_le};
+ghost use Rattle.std.specs.Prelude.{◌≡◌, ◌<◌, ◌^◌, ◌&&◌, ℕ, true, false, MatchOption, nat_le};
 ghost use Rattle.std.specs.FinMap as map;
 ghost use Rattle.fp_definition.specs.Key.{key_bytes};
 ghost use Rattle.fp_edit.specs.Admits.{changed_at, flags_after, has_revision, has_room};
@@ -12,7 +12,7 @@ ghost use Rattle.fp_edit.specs.Lent.{AreApart, lent, lent_change, lent_parts};
 use crate::edit::{Edit, EditFault, Expect, REVISIONS_END};
 use crate::flag_set::{FlagSet, MOST_FLAGS};
 use crate::lent::{EditParts, LentPart};
-use crate::tally::{Sums, most_with, sums_after, sums_of};
+use crate::sums::{Sums, most_with, sums_after};
 use fp_definition::{Definition, FlagKey};
 
 impl FlagSet {
@@ -77,8 +77,20 @@ impl FlagSet {
         ensures { result ≡ has_room self.now (lent_change parts.entry) }
     {
         !parts.puts_any()
-            || self.holds(most_with(sums_of(self.tally()), parts))
+            || self.holds(most_with(self.sums(), parts))
             || self.holds(self.sums_behind(parts))
+    }
+
+    // The set's own numbers.
+    fn sums(&self) -> Sums
+        ensures count { result.count ≡ map.len self.now.flags }
+        ensures size { result.size ≡ size_of self.now.flags }
+        ensures small { (result.count < 2 ^ 64) × (result.size < 2 ^ 64) }
+    {
+        Sums {
+            count: self.len() as u128,
+            size: self.size() as u128,
+        }
     }
 
     // Whether the numbers are within the set's limits.
@@ -94,7 +106,7 @@ impl FlagSet {
         ensures count { result.count ≡ map.len (flags_after self.now (lent_change parts.entry)) }
         ensures size { result.size ≡ size_of (flags_after self.now (lent_change parts.entry)) }
     {
-        let mut sums = sums_of(self.tally());
+        let mut sums = self.sums();
         for i in 0..parts.len() {
             let part = parts.lend(i);
             sums = sums_after(sums, part, self.cost_at(part.key));

@@ -14,16 +14,16 @@ use fp_documents::cost_of;
 
 /// A change to one flag, lent by whoever has it.
 #[derive(Clone, Copy)]
-pub(crate) struct LentPart<'a> {
-    pub(crate) key: &'a FlagKey,
-    // None where the key's flag goes.
-    pub(crate) flag: Option<&'a Definition>,
-    pub(crate) expect: Expect,
+pub struct LentPart<'a> {
+    pub key: &'a FlagKey,
+    /// `None` where the key's flag goes.
+    pub flag: Option<&'a Definition>,
+    pub expect: Expect,
 }
 
 /// The parts of an edit: its only one, or those of a change set.
 #[derive(Clone, Copy)]
-pub(crate) enum EditParts<'a> {
+pub enum EditParts<'a> {
     One(LentPart<'a>),
     Set(&'a [Change]),
 }
@@ -49,10 +49,12 @@ impl<'a> LentPart<'a> {
 
     /// What its key's flag takes in an image behind it.
     #[inline(always)]
-    pub(crate) fn cost(self) -> u128
+    pub fn cost(self) -> u128
+        // The bytes of the flag that it puts, whichever revision marks that; 0 where it puts none.
         ensures cost { (revision : ℕ) → result
             ≡ cost_found (part_key (lent self.entry).part)
             (left_at revision (lent self.entry).part) }
+        // Below 2^66.
         ensures small { result < 2 ^ 66 }
     {
         match self.flag {
@@ -63,9 +65,12 @@ impl<'a> LentPart<'a> {
 }
 
 impl<'a> EditParts<'a> {
+    /// Those of this edit.
     #[inline(always)]
-    pub(crate) fn new(edit: &'a Edit) -> EditParts<'a>
+    pub fn new(edit: &'a Edit) -> EditParts<'a>
+        // Together they propose what the edit does.
         ensures same { lent_by result ≡ proposal_of edit.now }
+        // They are 64 at most, each of another key.
         ensures lawful { AreApart (lent_parts result) }
     {
         match edit {
@@ -83,8 +88,9 @@ impl<'a> EditParts<'a> {
         }
     }
 
+    /// How many they are.
     #[inline(always)]
-    pub(crate) fn len(self) -> usize
+    pub fn len(self) -> usize
         ensures { result ≡ length (lent_parts self.entry) }
     {
         match self {
@@ -95,9 +101,12 @@ impl<'a> EditParts<'a> {
 
     /// The part at this place, from 0 on.
     #[inline(always)]
-    pub(crate) fn lend(self, i: usize) -> LentPart<'a>
+    pub fn lend(self, i: usize) -> LentPart<'a>
+        // There are more parts than that.
         requires { i < length (lent_parts self) }
+        // It proposes what stands there of what all of them propose.
         ensures proposed { lent result ≡ get_or (proposed (lent_by self.entry)) i (lent result) }
+        // It changes what stands there of what all of them change.
         ensures part { (lent result).part ≡ get_or (lent_parts self.entry) i (lent result).part }
     {
         match self {
@@ -107,7 +116,7 @@ impl<'a> EditParts<'a> {
     }
 
     /// Whether one of them puts a flag.
-    pub(crate) fn puts_any(self) -> bool
+    pub fn puts_any(self) -> bool
         ensures { result ≡ any_put (lent_parts self.entry) }
     {
         for i in 0..self.len() {
@@ -119,7 +128,8 @@ impl<'a> EditParts<'a> {
     }
 
     /// Whether each of them puts a flag.
-    pub(crate) fn puts_all(self) -> bool
+    pub fn puts_all(self) -> bool
+        // Where it is so; of `false` nothing is said.
         ensures { result ≡ true → AllByRecursion (λ p. is_put p ≡ true)
             (lent_parts self.entry) }
     {

@@ -2,17 +2,15 @@
 #![tactic(auto)]
 
 mod changes;
-mod costs;
 mod edit;
 mod flag_set;
-mod following;
 mod judging;
 mod keys;
 mod laws;
 mod lent;
 mod line;
 mod one_flag;
-mod tally;
+mod sums;
 mod walks;
 
 pub use changes::{
@@ -21,10 +19,11 @@ pub use changes::{
 };
 pub use edit::{Change, Edit, EditFault, Expect, REVISIONS_END};
 pub use flag_set::{FlagSet, MOST_FLAGS};
-pub use following::copies_of;
 pub use fp_documents::{Document, FLAG_FRAME, Flag, IMAGE_HEAD};
 pub use keys::MetKeys;
 pub use laws::{
     one_outcome, refusals_leave_no_trace, revisions_count_edits, sets_keep_their_limit,
 };
+pub use lent::{EditParts, LentPart};
 pub use line::{LONGEST_LINE, LineFault, PartFault, parse_line};
+pub use sums::{Sums, most_with, sums_after};

@@ -7,7 +7,7 @@ use Rattle.fp_disk.specs.declared.disk.Disk.{Ghosts}
 use Rattle.fp_edit.specs.Edits.{Change}
 use Rattle.fp_edit.specs.Flags.{State}
 use Rattle.fp_edit.specs.Flags as flags
-use Rattle.fp_edit.specs.Following.{Follows}
+use Rattle.fp_pending.specs.Following.{Follows}
 use Rattle.fp_edit.specs.Log.{after_all}
 use Rattle.fp_edit.proofs.Followed.{limit-after_all}
 use Rattle.fp_gate.specs.declared.gate.TheConstants.{OPEN}

@@ -4,7 +4,7 @@ use mathlib.Core.List.{IsPrefix}
 use Rattle.fp_edit.specs.Admits.{next}
 use Rattle.fp_edit.specs.Edits.{Change}
 use Rattle.fp_edit.specs.Flags.{State}
-use Rattle.fp_edit.specs.Following.{Follows}
+use Rattle.fp_pending.specs.Following.{Follows}
 use Rattle.fp_edit.specs.Log.{after_all}
 use Rattle.fp_edit.proofs.Followed.{change-unconditional}
 use Rattle.fp_recovery.specs.Stands.{Leads}

@@ -6,7 +6,7 @@ use Rattle.std.specs.List.{AllByRecursion}
 use Rattle.fp_edit.specs.Parts.{Part, put, delete}
 use Rattle.fp_edit.specs.Edits.{Change, one, set}
 use Rattle.fp_edit.specs.Flags.{State}
-use Rattle.fp_edit.specs.Following.{Follows}
+use Rattle.fp_pending.specs.Following.{Follows}
 use Rattle.fp_journal.specs.Numbers.{FRAME}
 use Rattle.fp_record.specs.Group.{Group}
 use Rattle.fp_record.specs.Numbers.{MOST_EDITS}

@@ -3,7 +3,7 @@ use Rattle.std.specs.Prelude.{◌≡◌, ◌≢◌, ◌⊎◌, ◌+◌, ◌≤�
 use Rattle.fp_disk.specs.Outcomes.{PendingState}
 use Rattle.fp_edit.specs.Edits.{Change}
 use Rattle.fp_edit.specs.Flags.{State}
-use Rattle.fp_edit.specs.Following.{Follows}
+use Rattle.fp_pending.specs.Following.{Follows}
 use Rattle.fp_edit.specs.Log.{after_all}
 use Rattle.fp_journal.specs.declared.journal.Phase.TheVariants.{Failed}
 use Rattle.fp_record.specs.WellFormed.{IsBatch}

@@ -1,6 +1,7 @@
 //! A step of a compaction, beside the batches.
 
-ghost use Rattle.fp_edit.specs.Following.{Follows, changes_of};
+ghost use Rattle.fp_edit.specs.Following.{changes_of};
+ghost use Rattle.fp_pending.specs.Following.{Follows};
 ghost use Rattle.fp_edit.specs.Log.{after_all};
 ghost use Rattle.std.specs.Prelude.{◌≡◌, length, IfOk, IfErr, OnOk, OnErr};
 ghost use Rattle.fp_compaction.specs.Steps.{calls_of};
@@ -40,7 +41,7 @@ fn catch_up(
         return Ok(());
     }
     match phase {
-        Phase::Idle => set.catch_up(ahead),
+        Phase::Idle => fp_pending::catch_up(set, ahead),
         Phase::Staged | Phase::BodySynced | Phase::GateOpened => Ok(()),
     }
 }

@@ -2,7 +2,8 @@
 
 ghost use Rattle.std.specs.Prelude.{◌≡◌, ◌<◌, ◌≤◌, ◌+◌, ◌↔◌, length, IfOk, IfErr, OnOk, IsTrue};
 ghost use Rattle.std.specs.List.{AllByRecursion};
-ghost use Rattle.fp_edit.specs.Following.{Follows, changes_of};
+ghost use Rattle.fp_edit.specs.Following.{changes_of};
+ghost use Rattle.fp_pending.specs.Following.{Follows};
 ghost use Rattle.fp_edit.specs.Log.{after_all};
 ghost use Rattle.fp_edit.specs.declared.edit.TheConstants.{REVISIONS_END};
 ghost use Rattle.fp_record.specs.declared.batch.TheConstants.{MOST_EDITS};
@@ -16,9 +17,10 @@ ghost use Rattle.fp_group_commit.specs.Inside.{HasPlace};
 use crate::fault::StoreFault;
 use crate::part::Applied;
 use fp_disk::Disk;
-use fp_edit::{Edit, FlagSet, copies_of};
+use fp_edit::{Edit, FlagSet};
 use fp_fronts::Lists;
 use fp_journal::Framed;
+use fp_pending::{accepts, accepts_behind, catch_up, copies_of};
 use fp_record::{BATCH_HEAD, Batch, MOST_EDITS, encoded_len};
 use fp_slots::{FIRST_VERSION, Slots};
 use std::alloc::{AllocError, Global};
@@ -137,14 +139,14 @@ fn framed(alloc: Global, most: u32, draw: &Draw) -> Result<(Framed, VecDeque<Edi
 }
 
 // Why a draw isn't staged, where there is no memory to take into the set what is ahead of it.
-fn refusal_behind(set: &FlagSet, ahead: &[Edit], draw: &Draw) -> StoreFault
+fn refusal_behind(alloc: Global, set: &FlagSet, ahead: &[Edit], draw: &Draw) -> StoreFault
     requires { Follows set.now (changes_of ahead.now) }
     ensures { IsStrange (after_all set.now (changes_of ahead.now)) draw.now result }
 {
     if draw.first != set.revision() + ahead.len() as u64 + 1 {
         return StoreFault::Stranger;
     }
-    if !set.accepts_behind(ahead, &draw.edits) {
+    if !accepts_behind(alloc, set, ahead, &draw.edits) {
         return StoreFault::Stranger;
     }
     StoreFault::Memory
@@ -174,13 +176,13 @@ pub(crate) fn ready(
     ensures fault { IfErr result
         (IsStrange (after_all set.old (changes_of ahead.old.items)) draw.now) }
 {
-    if set.catch_up(ahead).is_err() {
-        return Err(refusal_behind(set, ahead.make_contiguous(), draw));
+    if catch_up(set, ahead).is_err() {
+        return Err(refusal_behind(alloc, set, ahead.make_contiguous(), draw));
     }
     if draw.first != set.revision() + 1 {
         return Err(StoreFault::Stranger);
     }
-    if !set.accepts(&draw.edits) {
+    if !accepts(alloc, set, &draw.edits) {
         return Err(StoreFault::Stranger);
     }
     let Ok(framed) = framed(alloc, most, draw) else {

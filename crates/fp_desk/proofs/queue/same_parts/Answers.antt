@@ -1,8 +1,6 @@
-use Rattle.std.proofs.Common.{rules, ◌≡◌, ◌≤◌, false, true, refl, sym, ap, ◌∙◌, List, map, length, arith}
+use Rattle.std.proofs.Common.{◌≡◌, false, true, refl, sym, ap, ◌∙◌, map, arith}
 use Rattle.std.specs.Prelude.{IsTrue}
 use Rattle.std.proofs.lemmas.List.{take_all}
-use Rattle.fp_edit.specs.Parts.{Part}
-use Rattle.fp_edit.specs.declared.edit.Change as code
 use Rattle.fp_desk.proofs.Queues.{part_in, parts_are, same_at}
 use Rattle.fp_desk.proofs.queue.same_parts.Goals as goal
 

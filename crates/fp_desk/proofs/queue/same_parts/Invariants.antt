@@ -1,4 +1,4 @@
-use Rattle.std.proofs.Common.{◌≡◌, length, map, take}
+use Rattle.std.proofs.Common.{◌≡◌, map, take}
 use Rattle.fp_desk.proofs.Queues.{part_in}
 use Rattle.fp_desk.proofs.queue.same_parts.Given as goal
 

@@ -3,13 +3,13 @@ use Rattle.std.specs.Prelude.{IsTrue}
 use Rattle.fp_edit.specs.Edits.{Change}
 use Rattle.fp_edit.specs.Following.{changes_of}
 use Rattle.fp_record.specs.Group.{Group}
-use Rattle.fp_edit.specs.Following.{Follows}
-use Rattle.fp_edit.proofs.Followed.{follows_small}
+use Rattle.fp_pending.specs.Following.{Follows}
+use Rattle.fp_pending.proofs.Following.{follows_small}
 use Rattle.fp_group_commit.proofs.draw.ready.Goals as goal
 
 pub framed-requires-clause-revisions : goal.framed-requires-clause-revisions
 framed-requires-clause-revisions c =
-    let s = c.catch_up.new.self in
+    let s = c.catch_up.new.set in
     let yes : IsTrue c.accepts.result = search rules in
     let here : changes_of c.deref.result.now ≡ c.args.draw.now.changes = ap changes_of c.deref.ensures.value ∙
     ap (λ (g : Group). g.changes) c.draw.view_is in

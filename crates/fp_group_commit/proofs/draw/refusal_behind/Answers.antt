@@ -1,7 +1,8 @@
 use Rattle.std.proofs.Common.{◌≡◌, ◌+◌, List, length, true, false, sym, ap, subst, ◌∙◌, arith}
 use Rattle.std.proofs.lemmas.List.{length-map}
 use Rattle.fp_edit.specs.Edits.{Change}
-use Rattle.fp_edit.specs.Following.{Follows, change_of, changes_of}
+use Rattle.fp_edit.specs.Following.{change_of, changes_of}
+use Rattle.fp_pending.specs.Following.{Follows}
 use Rattle.fp_edit.specs.Log.{after_all}
 use Rattle.fp_edit.proofs.Runs.{revision-after_all}
 use Rattle.fp_record.specs.Group.{Group}

@@ -6,9 +6,9 @@ use Rattle.fp_edit.specs.Following.{change_of, changes_of}
 use Rattle.fp_record.specs.Group.{Group}
 use Rattle.fp_edit.specs.Log.{after_all}
 use Rattle.fp_edit.proofs.Runs.{revision-after_all}
-use Rattle.fp_edit.specs.Following.{Follows}
+use Rattle.fp_pending.specs.Following.{Follows}
 use Rattle.fp_group_commit.specs.Changes.{GoesOn}
-use Rattle.fp_edit.proofs.Followed.{follows_front}
+use Rattle.fp_pending.proofs.Following.{follows_front}
 use Rattle.fp_desk.specs.Desk.{DeskState, Draws, IsLongestPart, IsSound, most_of}
 use Rattle.fp_desk.proofs.Sound.{drawn_on, revisions}
 use Rattle.fp_desk.proofs.Queues.{moved, nil_of, no_items, on_err, renumbered, some_changes, some_items}

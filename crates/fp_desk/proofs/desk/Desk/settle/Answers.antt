@@ -51,17 +51,17 @@ module _ (c : goal.Else-is_err) where
 pub catch_up-requires-2 : goal.catch_up-requires-2
 catch_up-requires-2 c =
     let caught = none (goal.at.catch_up-requires-2 c).Else-is_err in
-    rw c.swap.ensures.x_after (drawn_follows _ _ _ _ c.self.invariant c.catch_up.new.self
+    rw c.swap.ensures.x_after (drawn_follows _ _ _ _ c.self.invariant c.catch_up.new.set
     (changes_of c.catch_up.new.ahead.items) c.catch_up.ensures.same caught)
 
 pub invariant_of-self-2 : goal.invariant_of-self-2
 invariant_of-self-2 c =
     let caught = none (goal.at.invariant_of-self-2 c).Else-is_err in let batch = same (goal.at.invariant_of-self-2 c).After-catch_up in
     let led = c.catch_up-2.ensures.same in
-    settled_on _ _ _ _ c.self.invariant c.catch_up.new.self (changes_of c.catch_up.new.ahead.items)
+    settled_on _ _ _ _ c.self.invariant c.catch_up.new.set (changes_of c.catch_up.new.ahead.items)
     c.catch_up.ensures.same caught _ c.advance.ensures.store
     (c.advance.ensures.edits ∙ ap (λ (l : List Change). c.self.inside.settled.edits ++ l) (sym batch))
-    (rw c.swap.ensures.y_after caught) refl c.catch_up-2.new.self (changes_of c.catch_up-2.new.ahead.items)
+    (rw c.swap.ensures.y_after caught) refl c.catch_up-2.new.set (changes_of c.catch_up-2.new.ahead.items)
     (rw (← c.swap.ensures.x_after) led) c.catch_up-2.ensures.follows
 
 pub returns-clause-drawn : goal.returns-clause-drawn

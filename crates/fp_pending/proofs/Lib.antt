@@ -1,0 +1,4 @@
+pub mod Bounding
+pub mod Following
+pub mod Noting
+pub mod Tallying
