@@ -111,12 +111,17 @@ module _ {D : Type 0} (disk : Ghosts D) (store : Identity) (desk_lists store_lis
         one_begins first w.first
         (subst (λ (l : List (StoreHalfState D)). IsPrefix (first ∷ []) l) w.only one)
 
-    pub flushed_well : broken ≡ false → Flushes disk first a (Ok tt)
+    flushed_well : broken ≡ false → Flushes disk first a (Ok tt)
     flushed_well well =
         subst (λ (x : StoreHalfState D). Flushes disk x a (Ok tt)) (sym same_first)
         (flushes_well disk only_now w.first a w.exit w.course (w.rest well) (w.no_failure well))
 
-    pub flushed_badly : (e : Broken) → broken ≡ true → Flushes disk first a (Err e)
+    flushed_badly : (e : Broken) → broken ≡ true → Flushes disk first a (Err e)
     flushed_badly e bad =
         subst (λ (x : StoreHalfState D). Flushes disk x a (Err e)) (sym same_first)
         (flushes_badly disk only_now w.first a w.exit w.course e (w.cause bad))
+
+    -- it ended well or badly, as sealing went on or broke off
+    pub flushed : (ended : Result (Unit {0}) Broken) → broken ≡ is_err ended → Flushes disk first a ended
+    flushed (Ok u) is = flushed_well is
+    flushed (Err e) is = flushed_badly e is

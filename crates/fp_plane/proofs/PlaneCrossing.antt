@@ -12,6 +12,7 @@ use Rattle.fp_fronts.proofs.growing.Growing.TheSendSync as growing
 use Rattle.fp_plane.proofs.Crossing.{desk_half_sent}
 use Rattle.fp_plane.proofs.bells.Bells.TheSendSync as bells
 use Rattle.fp_plane.proofs.gathering.Gathering.TheSendSync as gathering
+use Rattle.fp_plane.proofs.hall.tokens.AllSettled.TheSendSync as all_settled
 use Rattle.fp_plane.proofs.PublishCrossing.{board_sent, evaluator_sent, seats_sent}
 use Rattle.fp_plane.proofs.StoreCrossing.{store_half_sent}
 use Rattle.fp_plane.specs.contracts.hall.Hall as hall
@@ -38,7 +39,7 @@ own_half_sent D d sd = let T = own_half_inside.the_type D d in
 
 pub flushed_sent : (D : RattleType) (d : disk.Ghosts D.Denot) → IsSend D → IsSend (flushed.the_row D d)
 flushed_sent D d sd = let T = flushed.the_type D d in
-    recorded_send _ _ _ T.to_one (struct_send (shape T) (own_half_sent D d sd, search sendable depth 20))
+    recorded_send _ _ _ T.to_one (struct_send (shape T) (own_half_sent D d sd, search (sendable, all_settled.the_send) depth 20))
 
 module _ (K R : RattleType) (k : naming.Ghosts K.Denot) (sr : IsSend R) where
   hall_sent : IsSend (hall.the_row K R k)

@@ -11,7 +11,7 @@ ghost use Rattle.fp_plane.specs.Hall.{IsStoreOf};
 ghost use Rattle.fp_plane.specs.declared.flushing.Lull.TheVariants.{Alone};
 
 use crate::gathering::{Gathering, Sealing};
-use crate::hall::Refusal;
+use crate::hall::{AllSettled, Refusal};
 use crate::naming::Naming;
 use crate::owned::OwnHalf;
 use crate::pausing::pause;
@@ -32,19 +32,20 @@ use std::time::Clock;
 #[derive(Debug, Drop, Clone, Copy, PartialEq, Eq)]
 pub struct Broken;
 
-/// What a flusher gives back: the store's half, and whether sealing broke off.
+/// What a flusher gives back: the store's half, and that all that was taken is settled, or that
+/// sealing broke off.
 #[derive(Drop)]
 pub struct Flushed<D: Disk + Drop> {
     pub half: OwnHalf<D>,
-    pub ended: Result<(), Broken>,
+    pub ended: Result<AllSettled, Broken>,
 }
 
-/// Why a flusher lets the store's half lie: whoever was told last was alone, or the plane is to stop
-/// and nothing waits.
-#[derive(Debug, Drop, Clone, Copy, PartialEq, Eq)]
+/// Why a flusher lets the store's half lie: whoever was told last was alone, or the hall was ended,
+/// since the plane is to stop and nothing waits.
+#[derive(Drop)]
 pub(crate) enum Lull {
     Alone,
-    Over,
+    Over(AllSettled),
 }
 
 /// Seals what is handed in and no editor seals itself, batch after batch, settles and shows it,
@@ -97,8 +98,9 @@ where
 {
     for _ in plane.shared.rt.forever() {
         plane.gather(gathering);
-        if !plane.draw(half) {
-            return Ok(Lull::Over);
+        match plane.draw(half) {
+            Ok(()) => {}
+            Err(settled) => return Ok(Lull::Over(settled)),
         }
         flush(plane, half, gathering)?;
         take_step(&plane.shared.rt, half)?;
@@ -228,16 +230,16 @@ fn compact_on<D: Disk>(half: &mut StoreHalf<D>) -> Result<(), Broken>
 }
 
 impl<K: Naming, R: Wait + Clock + Drop> Plane<K, R> {
-    // Waits until edits wait, and draws them. `false` where the plane is to stop and none does: from
-    // the same lock on no batch is drawn any more.
-    fn draw<D: Disk>(&self, half: &mut StoreHalf<D>) -> bool
+    // Waits until edits wait, and draws them. `Err` where the plane is to stop and none does: the
+    // hall was ended under the same lock, and no batch is drawn any more.
+    fn draw<D: Disk>(&self, half: &mut StoreHalf<D>) -> Result<(), AllSettled>
         requires ours { IsStoreOf K.store K.desk_lists K.store_lists half.old }
         requires none { half.old.progress ≡ nothing_drawn }
-        // `true`: a batch is drawn, and a crash keeps what is settled.
-        ensures drawn { result ≡ true → (half.new.progress ≡ batch_drawn)
-            × ListsOn D.Disk half.old half.new }
-        // `false`: nothing changed.
-        ensures none { result ≡ false → half.new ≡ half.old }
+        // `Ok`: a batch is drawn, and a crash keeps what is settled.
+        ensures drawn { OnOk result ((half.new.progress ≡ batch_drawn)
+            × ListsOn D.Disk half.old half.new) }
+        // `Err`: nothing changed.
+        ensures none { OnErr result (half.new ≡ half.old) }
     {
         let shared = &self.shared;
         half.rest();
@@ -247,12 +249,9 @@ impl<K: Naming, R: Wait + Clock + Drop> Plane<K, R> {
                 Ok(Some(_)) => {
                     shared.note_waiting(&hall);
                     half.rest();
-                    return true;
+                    return Ok(());
                 }
-                Ok(None) if hall.is_closing() => {
-                    hall.end();
-                    return false;
-                }
+                Ok(None) if hall.is_closing() => return Err(hall.end()),
                 Ok(None) => hall = shared.work.wait(&shared.rt, hall),
                 Err(_) => {
                     drop(hall);

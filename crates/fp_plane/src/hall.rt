@@ -1,8 +1,8 @@
 //! What a plane's lock keeps.
 
-ghost use Rattle.std.specs.Prelude.{◌≡◌, ◌⊎◌, ◌<◌, ◌≤◌, ◌+◌, ◌++◌, [], ◌∷◌, true, None, Some};
+ghost use Rattle.std.specs.Prelude.{◌≡◌, ◌⊎◌, ◌<◌, ◌≤◌, ◌+◌, [], true};
 ghost use Rattle.std.specs.Prelude.{◌≢◌, length, IfOk, IfErr, IfNone, IfSome, OnOk, OnErr};
-ghost use Rattle.std.specs.Prelude.{MatchOption, MatchResult, All, vec_len, ◌||◌, ◌&&◌, ◌-◌};
+ghost use Rattle.std.specs.Prelude.{MatchOption, MatchResult, All, vec_len, ◌||◌};
 ghost use Rattle.fp_edit.specs.Edits.{proposal_of};
 ghost use Rattle.fp_desk.specs.Desk.{IsAccepted, Refuses, log};
 ghost use Rattle.fp_desk.specs.Desk.{settled_front, settled_revision};
@@ -10,30 +10,27 @@ ghost use Rattle.fp_committer.specs.Committer.{Agree, HaveDrawn, HaveSettled};
 ghost use Rattle.fp_committer.specs.Way.{batch_sealed};
 ghost use Rattle.fp_group_commit.specs.Tokens.{front_revision};
 ghost use Rattle.fp_publish.specs.Fronts.{Begins};
-ghost use Rattle.fp_publish.specs.Seats.{IsNews, had_by};
 ghost use Rattle.fp_publish.specs.declared.board.TheConstants.{MOST_EVALUATORS};
-ghost use Rattle.fp_publish.specs.declared.seats.TheConstants.{MOST_SEATS};
-ghost use Rattle.fp_stream.specs.declared.hello.Hello.TheVariants.{Has};
 ghost use Rattle.std.specs.Vec.{vec_capacity};
 ghost use Rattle.fp_plane.specs.Hall.{IsAtRest, IsDeskOf, IsNew, IsNewDesk, IsOver, IsStoreOf};
 ghost use Rattle.fp_plane.specs.Hall.{IsUnanswered, desk_of};
 
+mod lending;
 mod tokens;
 
 use crate::naming::Naming;
 use crate::owned::OwnBoard;
 use fp_committer::{DeskHalf, StoreHalf};
-use fp_desk::{SubmitFault, Ticket};
+use fp_desk::Ticket;
 use fp_disk::Disk;
 use fp_edit::Edit;
 use fp_group_commit::Told;
-use fp_publish::{Evaluator, Handed, MOST_EVALUATORS, Seat, Seats, SeatsUsed, Shown};
-use fp_stream::Hello;
+use fp_publish::{Evaluator, MOST_EVALUATORS, Seats, Shown};
 use std::alloc::{AllocError, Global};
 use std::marker::{Model, PhantomData};
 use std::snapshot::Snapshot;
 use std::sync::Wait;
-pub use tokens::{GivenUp, Refusal};
+pub use tokens::{AllSettled, GivenUp, Refusal};
 
 /// Somebody has each evaluator.
 #[derive(Debug, Drop, Clone, Copy, PartialEq, Eq)]
@@ -312,7 +309,7 @@ impl<K: Naming, R: Wait + Drop> Hall<K, R> {
 
     /// No batch is drawn any more, since nothing waits. So the flusher ends a plane that is to
     /// stop.
-    pub fn end(&mut self)
+    pub fn end(&mut self) -> AllSettled
         // The plane is to stop.
         requires closing { self.old.closing ≡ true }
         // Nothing is drawn, and nothing waits.
@@ -320,6 +317,7 @@ impl<K: Naming, R: Wait + Drop> Hall<K, R> {
         ensures { self.new ≡ record self.old { ended = true } }
     {
         self.has_ended = true;
+        AllSettled { of: () }
     }
 
     /// No batch is drawn any more, since sealing broke off. No edit is taken any more.
@@ -333,109 +331,5 @@ impl<K: Naming, R: Wait + Drop> Hall<K, R> {
         self.desk.stop();
         self.has_failed = true;
         self.has_ended = true;
-    }
-
-    // ---- evaluators
-
-    /// An evaluator that nobody has.
-    pub fn evaluator(&mut self) -> Result<Evaluator, EvaluatorsUsed>
-        // `Ok`: it is of the plane's store, and is lent nothing.
-        ensures ours { IfOk result (λ e. (e.known.store ≡ K.store) × (e.lent ≡ None)) }
-        // `Ok`: it is one of those that nobody had, and isn't any more.
-        ensures lent { IfOk result (λ e. self.old.idle ≡ self.new.idle ++ e ∷ []) }
-        // Refused exactly where somebody has each; nothing has changed.
-        ensures used { OnErr result ((self.old.idle ≡ []) × (self.new ≡ self.old)) }
-        // Nothing else changes.
-        ensures rest { self.new ≡ record self.old { idle = self.new.idle } }
-    {
-        match self.idle.pop() {
-            Some(evaluator) => Ok(evaluator),
-            None => Err(EvaluatorsUsed),
-        }
-    }
-
-    /// Takes an evaluator back, at rest. It is let go of where none is out.
-    pub fn give_back(&mut self, evaluator: Evaluator)
-        // The evaluator is of the plane's store.
-        requires { evaluator.known.store ≡ K.store }
-        // Where fewer than 16 are here, it is one of those that nobody has, and is lent nothing.
-        ensures back { length self.old.idle < MOST_EVALUATORS → self.new.idle
-            ≡ self.old.idle ++ (record { known = evaluator.known; lent = None }) ∷ [] }
-        // Where all are here nothing changes.
-        ensures none_out { MOST_EVALUATORS ≤ length self.old.idle → self.new ≡ self.old }
-        // Nothing else changes.
-        ensures rest { self.new ≡ record self.old { idle = self.new.idle } }
-    {
-        let mut evaluator = evaluator;
-        evaluator.rest();
-        if self.idle.len() < MOST_EVALUATORS {
-            self.idle.push_reserved(evaluator);
-        }
-    }
-
-    // ---- subscribers
-
-    /// A seat for a subscriber that has this.
-    pub fn seat(&mut self, hello: Hello) -> Result<Seat, SeatsUsed>
-        // `Ok`: fewer than 32 were taken, one more is now, and the seat has what was said.
-        // `SeatsUsed` exactly where 32 are taken.
-        ensures taken { MatchResult result
-            (λ s. (self.old.taken < MOST_SEATS) × (self.new.taken ≡ self.old.taken + 1)
-            × (had_by s ≡ hello))
-            (λ _. (MOST_SEATS ≤ self.old.taken) × (self.new.taken ≡ self.old.taken)) }
-        // Nothing else changes.
-        ensures rest { self.new ≡ record self.old { taken = self.new.taken } }
-    {
-        self.seats.seat(hello)
-    }
-
-    /// Takes a seat back, so that one fewer is taken.
-    pub fn unseat(&mut self, seat: Seat)
-        ensures { self.new ≡ record self.old { taken = self.old.taken - 1 } }
-    {
-        self.seats.unseat(seat);
-    }
-
-    /// Hands what is shown to a subscriber that hasn't got it.
-    pub fn hand(&mut self, seat: &mut Seat) -> Result<Option<Handed>, AllocError>
-        // `Ok`: `None` exactly where the subscriber has this revision or a greater one. Else it
-        // is handed what is shown, and has its revision.
-        ensures handed { IfOk result (λ o. MatchOption o
-            (¬ IsNews (had_by seat.old) self.old.shown × (had_by seat.new ≡ had_by seat.old))
-            (λ h. IsNews (had_by seat.old) self.old.shown × (h ≡ self.old.shown)
-            × (had_by seat.new ≡ Has (front_revision self.old.shown)))) }
-        // `Ok`: what is handed is of the plane's store.
-        ensures ours { IfOk result (λ o. IfSome o (λ h. h.store ≡ K.store)) }
-        // `Err`: the seat is as it was.
-        ensures unchanged { OnErr result (seat.new ≡ seat.old) }
-        // `Err` only where there was something to hand.
-        ensures turn { OnErr result (IsNews (had_by seat.old) self.old.shown) }
-        // What was handed last is still there, or is what is shown.
-        ensures last { (self.new.handed ≡ self.old.handed)
-            ⊎ (self.new.handed ≡ Some self.old.shown) }
-        // Nothing else changes.
-        ensures rest { self.new ≡ record self.old { handed = self.new.handed } }
-    {
-        let view = self.board.view();
-        self.seats.hand(self.alloc, &view, seat)
-    }
-
-    /// How often it was looked who has left, up to an overflow. No clause speaks of it.
-    pub fn looks(&self) -> u64 {
-        self.looks
-    }
-
-    /// Looks who has left: nothing that is seen of the hall changes.
-    pub fn look(&mut self)
-        ensures { self.new ≡ self.old }
-    {
-        self.looks = self.looks.wrapping_add(1);
-    }
-
-    /// Whether nothing more is shown, and subscribers are to go.
-    pub fn is_closed(&self) -> bool
-        ensures { result ≡ (self.now.closing && self.now.ended) }
-    {
-        self.is_closing && self.has_ended
     }
 }

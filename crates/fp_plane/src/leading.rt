@@ -1,6 +1,6 @@
 //! The store's half of a plane where nobody seals, and who seals by it.
 
-ghost use Rattle.std.specs.Prelude.{◌≡◌, ◌∷◌, [], true, false, IfOk, IfErr};
+ghost use Rattle.std.specs.Prelude.{◌≡◌, ◌∷◌, [], true, false, is_err, IfOk, IfErr, IfNone, IfSome};
 ghost use Rattle.fp_edit.specs.Edits.{proposal_of};
 ghost use Rattle.fp_committer.specs.StoreHalf.{StoreHalfState};
 ghost use Rattle.fp_plane.specs.Flushing.{Flushes, IsResting};
@@ -8,7 +8,7 @@ ghost use Rattle.fp_plane.specs.Hall.{IsStoreOf};
 
 use crate::flushing::{Broken, Flushed, Lull, flush_while_busy, submit_and_flush, take_step};
 use crate::gathering::Gathering;
-use crate::hall::Refusal;
+use crate::hall::{AllSettled, Refusal};
 use crate::naming::Naming;
 use crate::owned::OwnHalf;
 use crate::plane::Plane;
@@ -142,54 +142,53 @@ impl<K: Naming, D: Disk + Drop> Lying<K, D> {
         }
     }
 
-    /// Seals what waits, for as long as editors are about. `true` where nothing is sealed any more:
-    /// sealing broke off, or the plane is to stop and nothing waits.
-    pub fn flush<R>(&mut self, plane: &Plane<K, R>) -> bool
+    /// Seals what waits, for as long as editors are about. `Some` where nothing is sealed any more:
+    /// sealing broke off, or the plane is to stop, nothing waits and the hall was ended.
+    pub fn flush<R>(&mut self, plane: &Plane<K, R>) -> Option<Result<AllSettled, Broken>>
     where
         R: Wait + Clock + Log + Drop,
-        ensures broken { self.new.broken ≡ true → result ≡ true }
-        ensures on { result ≡ false → self.new.alone ≡ true }
+        ensures over { IfSome result (λ ended. self.new.broken ≡ is_err ended) }
+        ensures on { IfNone result ((self.new.broken ≡ false) × (self.new.alone ≡ true)) }
     {
         if self.broken {
-            return true;
+            return Some(Err(Broken));
         }
         let paused = flush_while_busy(plane, &mut self.half, &mut self.gathering);
         self.broken = paused.is_err();
         match paused {
-            Ok(Lull::Alone) => false,
-            Ok(Lull::Over) => true,
+            Ok(Lull::Alone) => None,
+            Ok(Lull::Over(settled)) => Some(Ok(settled)),
             Err(Broken) => {
                 plane.break_off();
-                true
+                Some(Err(Broken))
             }
         }
     }
 
-    /// Gives the half back, which came from the one that the front names.
-    pub fn into_flushed(self, began: &Front<OwnHalf<D>>) -> Flushed<D>
-        requires { began.now.name ≡ K.beginning }
+    /// Gives the half back, which came from the one that the front names, and how it ended: well
+    /// only where the hall was ended.
+    pub fn into_flushed(
+        self,
+        began: &Front<OwnHalf<D>>,
+        ended: Result<AllSettled, Broken>,
+    ) -> Flushed<D>
+        requires named { began.now.name ≡ K.beginning }
+        requires ended { self.broken ≡ is_err ended }
         ensures { (first : StoreHalfState D) → began.now.log ≡ first ∷ [] →
             Flushes D.Disk first result.half result.ended }
     {
         self.began.confirm(began);
         let Self {
             half,
-            broken,
+            broken: _,
             gathering: _,
             owes_step: _,
             began: _began,
             of: _,
         } = self;
-        let half = OwnHalf::new(half);
-        if broken {
-            return Flushed {
-                half,
-                ended: Err(Broken),
-            };
-        }
         Flushed {
-            half,
-            ended: Ok(()),
+            half: OwnHalf::new(half),
+            ended,
         }
     }
 }

@@ -15,14 +15,14 @@
 //! end it takes the half out of its place under the lock under which it ended the hall: an editor
 //! that comes later finds none, and a hall that takes no edit.
 
-ghost use Rattle.std.specs.Prelude.{◌≡◌, ◌∷◌, [], IfOk, IfErr};
+ghost use Rattle.std.specs.Prelude.{◌≡◌, ◌∷◌, [], is_err, IfOk, IfErr, IfSome};
 ghost use Rattle.fp_committer.specs.StoreHalf.{StoreHalfState};
 ghost use Rattle.fp_edit.specs.Edits.{proposal_of};
 ghost use Rattle.fp_plane.specs.Flushing.{Flushes, IsResting};
 ghost use Rattle.fp_plane.specs.Hall.{IsStoreOf};
 
-use crate::flushing::Flushed;
-use crate::hall::Refusal;
+use crate::flushing::{Broken, Flushed};
+use crate::hall::{AllSettled, Refusal};
 use crate::leading::Lying;
 use crate::naming::Naming;
 use crate::owned::OwnHalf;
@@ -126,8 +126,8 @@ impl<K: Naming, D: Disk + Drop, R: Wait + Clock + Log + Drop> SealingPlane<K, D,
         for _ in self.plane.shared.rt.forever() {
             // It looks under the hall's lock, so what was handed in since it let the place go is seen.
             self.plane.await_work();
-            if let Some(lying) = self.flush() {
-                return lying.into_flushed(began);
+            if let Some((lying, ended)) = self.flush() {
+                return lying.into_flushed(began, ended);
             }
         }
         unreachable!()
@@ -135,16 +135,16 @@ impl<K: Naming, D: Disk + Drop, R: Wait + Clock + Log + Drop> SealingPlane<K, D,
 
     // Seals what waits. Where nothing is sealed any more it takes the half out of its place, under the
     // same lock: who comes later finds none, and its edit is refused.
-    fn flush(&self) -> Option<Lying<K, D>> {
+    fn flush(&self) -> Option<(Lying<K, D>, Result<AllSettled, Broken>)>
+        ensures { IfSome result (λ p. p.0.broken ≡ is_err p.1) }
+    {
         let rt = &self.plane.shared.rt;
         let mut place = self.place.lock(rt);
-        let is_over = match &mut *place {
-            Some(lying) => lying.flush(&self.plane),
-            None => {
-                pause(rt);
-                false
-            }
+        let Some(lying) = &mut *place else {
+            pause(rt);
+            return None;
         };
-        if is_over { place.take() } else { None }
+        let ended = lying.flush(&self.plane)?;
+        Some((place.take()?, ended))
     }
 }

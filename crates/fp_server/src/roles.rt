@@ -5,12 +5,11 @@ use crate::evaluations::{LentEvaluator, LoanFault};
 use crate::noted::Noted;
 use crate::serving::moment;
 use fp_connections::Host;
+use fp_conversations::{EditorEnd, SubscriberFault, editor_loop, subscriber_loop};
 use fp_disk::Disk;
 use fp_http::{Blocking, TimeLimits, serve_ofrep};
 use fp_log::Port;
-use fp_plane::{
-    EditorEnd, Naming, Plane, SealingPlane, SubscriberFault, editor_loop, subscriber_loop,
-};
+use fp_plane::{Naming, Plane, SealingPlane};
 use fp_publish::{MOST_EVALUATORS, MOST_SEATS};
 use fp_stream::HelloFault;
 use fp_streams::{FailureCounted, StreamFault};

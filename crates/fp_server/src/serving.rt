@@ -292,7 +292,7 @@ where
     let Flushed { half, ended } = flusher.join(rt);
     services.end();
     match (attended, ended) {
-        (Ok(()), Ok(())) => Ok(half.into_half()),
+        (Ok(()), Ok(_settled)) => Ok(half.into_half()),
         (Ok(()), Err(_)) => Err((CommandFault::StoreFailed, half.into_half())),
         (Err(fault), _) => Err((fault, half.into_half())),
     }

@@ -1,4 +1,5 @@
-//! What a hall alone makes: that an edit wasn't taken, and that one isn't known to be kept.
+//! What a hall alone makes: that an edit wasn't taken, that one isn't known to be kept, and that
+//! all that was taken is settled.
 
 ghost use Rattle.std.specs.Prelude.{◌≡◌};
 
@@ -30,6 +31,19 @@ impl Refusal {
     {
         self.fault
     }
+}
+
+/// That no batch is drawn any more, and all that was taken is settled: the plane is to stop,
+/// nothing is drawn and nothing waits. `Hall::end` makes one, and nothing else does.
+#[derive(Drop)]
+pub struct AllSettled {
+    pub(super) of: (),
+}
+
+impl Model for AllSettled {
+    ghost Value = { Unit {0} };
+
+    ghost view = { λ _. tt };
 }
 
 /// The ticket of an edit that isn't known to be kept: no edit is settled any more, and it isn't. A

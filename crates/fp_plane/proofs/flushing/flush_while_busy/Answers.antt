@@ -8,7 +8,7 @@ use Rattle.fp_plane.proofs.flushing.flush_while_busy.Goals as goal
 pub loop-preserved : goal.loop-preserved
 loop-preserved g c =
     let D = g.D.Disk in let k = g.K.Naming in let inv = c.loop.invariant in
-    let drew = c.draw.ensures.drawn c.if-not-draw.false in
+    let drew = c.in-Ok.ensures.drawn in
     let h = c.loop.half in let d = c.draw.new.half in let n = c.flush.new.half in let m = c.take_step.new.half in
     let sealed = course_then D h d n (course_lists D h d drew.1) c.flush.ensures.course in
     let on = course_then D h n m sealed c.take_step.ensures.course in
@@ -22,19 +22,19 @@ loop-preserved g c =
 pub returns-in_err-flush-clause-course : goal.returns-in_err-flush-clause-course
 returns-in_err-flush-clause-course g c =
     let D = g.D.Disk in let h = c.loop.half in let d = c.draw.new.half in let n = c.flush.new.half in
-    let drew = c.draw.ensures.drawn c.if-not-draw.false in
+    let drew = c.in-Ok.ensures.drawn in
     course_then D c.args.half.now h n c.loop.invariant.course (course_then D h d n (course_lists D h d drew.1) c.flush.ensures.course)
 
 pub returns-in_err-take_step-clause-course : goal.returns-in_err-take_step-clause-course
 returns-in_err-take_step-clause-course g c =
     let D = g.D.Disk in let h = c.loop.half in let d = c.draw.new.half in let n = c.flush.new.half in let m = c.take_step.new.half in
-    let drew = c.draw.ensures.drawn c.if-not-draw.false in
+    let drew = c.in-Ok.ensures.drawn in
     let sealed = course_then D h d n (course_lists D h d drew.1) c.flush.ensures.course in
     course_then D c.args.half.now h m c.loop.invariant.course (course_then D h n m sealed c.take_step.ensures.course)
 
 pub returns-then-is_alone-clause-course : goal.returns-then-is_alone-clause-course
 returns-then-is_alone-clause-course g c =
     let D = g.D.Disk in let h = c.loop.half in let d = c.draw.new.half in let n = c.flush.new.half in let m = c.take_step.new.half in
-    let drew = c.draw.ensures.drawn c.if-not-draw.false in
+    let drew = c.in-Ok.ensures.drawn in
     let sealed = course_then D h d n (course_lists D h d drew.1) c.flush.ensures.course in
     course_then D c.args.half.now h m c.loop.invariant.course (course_then D h n m sealed c.take_step.ensures.course)

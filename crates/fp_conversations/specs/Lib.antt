@@ -1,0 +1,4 @@
+pub mod Answers
+pub mod Outcomes
+pub mod Editing
+pub mod Sending

@@ -1,0 +1,38 @@
+-- What a subscriber is sent.
+use Rattle.std.specs.Prelude.{◌≡◌, ◌<◌, ℕ, List, Option, All, map, Result, Ok, Err}
+use Rattle.std.specs.Io.KnownBytes.{Appends, Consumes}
+use Rattle.fp_documents.specs.Document.{document}
+use Rattle.fp_group_commit.specs.Tokens.{FrontState, Identity, front_revision, front_set}
+use Rattle.fp_stream.specs.Frames.{AreNews, Snapshot, has_after, stream_of}
+use Rattle.fp_stream.specs.Hellos.{Hears, hello_bytes}
+use Rattle.fp_stream.specs.declared.hello.Hello.{Hello}
+use Rattle.fp_conversations.specs.declared.subscriber.SubscriberFault.{SubscriberFault}
+use Rattle.fp_conversations.specs.declared.subscriber.SubscriberFault.TheVariants as fault
+
+-- the document of the set that a front leads to, and its revision
+abbrev pub snapshot_of : FrontState → Snapshot
+snapshot_of f = record { revision = front_revision f; document = document (front_set f).flags }
+
+-- Behind what a writer held stand the frames of some fronts of this store, each news to who had
+-- that and got those before; now it has the last one
+pub record IsSent (store : Identity) (had has : Hello)
+    (before held : Option (List ℕ)) : Type 0 where
+  pub fronts : List FrontState
+  pub ours : All (λ f. f.store ≡ store) fronts
+  pub news : AreNews had (map snapshot_of fronts)
+  pub now : has ≡ has_after had (map snapshot_of fronts)
+  pub written : Appends before held (stream_of (map snapshot_of fronts))
+
+-- A reader gave a hello, and a writer that failed so often before and after got what is news behind
+-- it. Where no hello came, or there was no seat, nothing was written; a failure of the writer is
+-- counted where one ended it
+abbrev pub Serves : Identity → Option (List ℕ) → Option (List ℕ) → Option (List ℕ)
+    → Option (List ℕ) → ℕ → ℕ → Result (Unit {0}) SubscriberFault → Type 0
+Serves store reads left before held failed fails (Ok x) = (fails ≡ failed)
+    × ((had : Hello) × (has : Hello) × Consumes reads left (hello_bytes had)
+    × IsSent store had has before held)
+Serves store reads left before held failed fails (Err (fault.Hello f)) = (fails ≡ failed)
+    × Hears reads left (Err f)
+Serves store reads left before held failed fails (Err fault.SeatsUsed) = (fails ≡ failed)
+    × ((had : Hello) × Consumes reads left (hello_bytes had))
+Serves store reads left before held failed fails (Err fault.Device) = failed < fails

@@ -1,0 +1,301 @@
+//! An editor's connection.
+
+ghost use Rattle.std.specs.Prelude.{◌≡◌, ◌+◌, ◌++◌, ◌∷◌, [], ◌<◌, ◌≤◌, ℕ, List, Option, None};
+ghost use Rattle.std.specs.Prelude.{false, IfErr, IfOk, IfSome, IsSomeAnd, OnErr, OnOk, MatchBool};
+ghost use Rattle.std.specs.Result.{result_map_both};
+ghost use Rattle.fp_group_commit.specs.Tokens.{Identity, front_revision};
+ghost use Rattle.fp_session.specs.Asks.{Ask, asked_by_input};
+ghost use Rattle.fp_session.specs.Progress.{AsksFor};
+ghost use Rattle.fp_session.specs.Requests.{IsHttpRequest, first_line};
+ghost use Rattle.fp_streams.specs.Failures.{CountsFailures};
+ghost use Rattle.fp_streams.specs.declared.counted.StreamFault.TheVariants.{Device};
+ghost use Rattle.fp_edit.specs.Edits.{proposal_of};
+ghost use Rattle.fp_conversations.specs.Answers.{IsAnswerTo, IsWithin, answer_of_code, answer_to_refusal};
+ghost use Rattle.fp_conversations.specs.Outcomes.{IsOutcomeOf, IsToldBy, answer_to_outcome, told_by};
+ghost use Rattle.fp_conversations.specs.Editing.{Ends, IsNoLess, IsServed, IsServedFirst};
+ghost use Rattle.fp_conversations.specs.declared.editor.EditorEnd.TheVariants.{HttpRequest};
+
+use crate::answer::{Answer, send_answer};
+use fp_desk::{SubmitFault, Ticket};
+use fp_disk::Disk;
+use fp_edit::{Edit, EditFault, LineFault};
+use fp_group_commit::Told;
+use fp_plane::{GivenUp, Naming, Refusal, SealingPlane};
+use fp_session::{EditSource, InputLines, Reply};
+use fp_streams::{FailureCounted, StreamFault};
+use log::Log;
+use std::alloc::Global;
+use std::io::{Read, Write};
+use std::sync::Wait;
+use std::time::Clock;
+
+/// How an editor's connection ended where neither stream failed.
+#[derive(Drop)]
+pub enum EditorEnd {
+    /// Each line was answered. With it the most that was told.
+    Served(Option<Told>),
+    /// Its first line is an HTTP request's, so that nothing was answered: a page that a browser
+    /// shows can say any lines behind it.
+    HttpRequest,
+}
+
+/// Answers each line of an editor, before the next one is looked at, and each edit once it is
+/// sealed, settled and shown; none of them where the first line is an HTTP request's.
+///
+/// With the end, or the fault, comes the most that was told. Want of memory ends it where a line
+/// comes in; of an edit that was taken it always tells.
+pub fn editor_loop<K, D, R, I, O>(
+    plane: &SealingPlane<K, D, R>,
+    alloc: Global,
+    r: &mut FailureCounted<I>,
+    w: &mut FailureCounted<O>,
+) -> Result<EditorEnd, (StreamFault, Option<Told>)>
+where
+    K: Naming,
+    D: Disk + Drop,
+    R: Wait + Clock + Log + Drop,
+    I: Read,
+    O: Write,
+    // `Served`: the first line is no HTTP request's, and there is one line for each line read
+    // that gets one, in order. What comes back is of the plane's store, and no revision that was
+    // written is greater. `HttpRequest`: the first line is one, and nothing was written.
+    ensures served { IfOk result (λ end. IfSome (I.remaining r.old.inner) (λ input.
+        Ends K.store end input (O.contents w.old.inner) (O.contents w.new.inner))) }
+
+    // Where the first line is an HTTP request's nothing is written, however the call ends.
+    ensures silent { IfSome (I.remaining r.old.inner)
+        (λ input. IsHttpRequest (first_line input) → w.new ≡ w.old) }
+    // `HttpRequest`: nothing was written.
+    ensures untouched { IfOk result (λ end. end ≡ HttpRequest → w.new ≡ w.old) }
+
+    // `Err`, unless the writer failed: the same of some first lines that get one.
+    ensures broken { IfErr result (λ e. w.new.failures ≡ w.old.failures →
+        IfSome (I.remaining r.old.inner) (λ input.
+        IsServedFirst K.store e.1 (asked_by_input input)
+        (O.contents w.old.inner) (O.contents w.new.inner))) }
+    // `Err`: what comes back is of the plane's store.
+    ensures ours { IfErr result (λ e. IfSome e.1 (λ t. t.store ≡ K.store)) }
+    // `Device` exactly where a failure of either stream was counted.
+    ensures device { CountsFailures (r.old.failures + w.old.failures)
+        (r.new.failures + w.new.failures) (result_map_both (λ t. t) (λ e. e.0) result) }
+{
+    let mut lines = InputLines::new(alloc);
+    let is_request = match lines.begin_with_request(r) {
+        Ok(is_request) => is_request,
+        Err(fault) => return Err((fault, None)),
+    };
+    if is_request {
+        return Ok(EditorEnd::HttpRequest);
+    }
+    match serve_source(plane, alloc, &mut lines, r, w) {
+        Ok(told) => Ok(EditorEnd::Served(told)),
+        Err(broken) => Err(broken),
+    }
+}
+
+// Answers all that a source asks, in order, and gives the most that was told.
+fn serve_source<K, D, R, S, A, O>(
+    plane: &SealingPlane<K, D, R>,
+    alloc: Global,
+    source: &mut A,
+    stream: &mut S,
+    w: &mut FailureCounted<O>,
+) -> Result<Option<Told>, (StreamFault, Option<Told>)>
+where
+    K: Naming,
+    D: Disk + Drop,
+    R: Wait + Clock + Log + Drop,
+    A: EditSource<S>,
+    O: Write,
+    ensures served { IfOk result (λ told. (all : List Ask) → A.asks source.old stream.old all
+        → IsServed K.store told all (O.contents w.old.inner) (O.contents w.new.inner)) }
+    ensures broken { IfErr result (λ e. w.new.failures ≡ w.old.failures
+        → (all : List Ask) → A.asks source.old stream.old all
+        → IsServedFirst K.store e.1 all (O.contents w.old.inner) (O.contents w.new.inner)) }
+    ensures ours { IfErr result (λ e. IfSome e.1 (λ t. t.store ≡ K.store)) }
+    ensures device { CountsFailures (A.failures stream.old + w.old.failures)
+        (A.failures stream.new + w.new.failures) (result_map_both (λ t. t) (λ e. e.0) result) }
+{
+    let mut told = None;
+    match answer_all(plane, alloc, source, stream, w, &mut told) {
+        Ok(()) => Ok(told),
+        Err(fault) => Err((fault, told)),
+    }
+}
+
+// Answers all that a source asks, in order, and keeps the most that was told.
+fn answer_all<K, D, R, S, A, O>(
+    plane: &SealingPlane<K, D, R>,
+    alloc: Global,
+    source: &mut A,
+    stream: &mut S,
+    w: &mut FailureCounted<O>,
+    told: &mut Option<Told>,
+) -> Result<(), StreamFault>
+where
+    K: Naming,
+    D: Disk + Drop,
+    R: Wait + Clock + Log + Drop,
+    A: EditSource<S>,
+    O: Write,
+    requires none { told.old ≡ None }
+    ensures served { OnOk result ((all : List Ask) → A.asks source.old stream.old all
+        → IsServed K.store told.new all (O.contents w.old.inner) (O.contents w.new.inner)) }
+    ensures broken { OnErr result (w.new.failures ≡ w.old.failures
+        → (all : List Ask) → A.asks source.old stream.old all
+        → IsServedFirst K.store told.new all (O.contents w.old.inner) (O.contents w.new.inner)) }
+    ensures ours { IfSome told.new (λ t. t.store ≡ K.store) }
+    ensures device { CountsFailures (A.failures stream.old + w.old.failures)
+        (A.failures stream.new + w.new.failures) result }
+{
+    loop {
+        loop {
+            let Ok(next) = source.next(alloc) else {
+                return Err(StreamFault::Memory);
+            };
+            let Some(asked) = next else {
+                break;
+            };
+            answer(plane, alloc, asked, told, w)?;
+        }
+        let more = source.refill(stream)?;
+        if !more {
+            return Ok(());
+        }
+    }
+}
+
+// Answers what a line asks.
+fn answer<K, D, R, O>(
+    plane: &SealingPlane<K, D, R>,
+    alloc: Global,
+    asked: Result<Edit, LineFault>,
+    told: &mut Option<Told>,
+    w: &mut FailureCounted<O>,
+) -> Result<(), StreamFault>
+where
+    K: Naming,
+    D: Disk + Drop,
+    R: Wait + Clock + Log + Drop,
+    O: Write,
+    ensures answered { OnOk result ((x : Ask) (all : List Ask) (before : Option (List ℕ))
+        → AsksFor asked x → IsServed K.store told.old all before (O.contents w.old.inner)
+        → IsServed K.store told.new (all ++ x ∷ []) before (O.contents w.new.inner)) }
+    ensures ours { IfSome told.old (λ t. t.store ≡ K.store)
+        → IfSome told.new (λ t. t.store ≡ K.store) }
+    ensures fault { IfErr result (λ f. f ≡ Device) }
+    ensures counted { CountsFailures w.old.failures w.new.failures result }
+{
+    let (answer, more) = answer_to(plane, asked);
+    keep_greater(told, more);
+    send_answer(alloc, w, &answer)?;
+
+    // What a compaction is owed is no part of its editor's wait.
+    plane.go_on();
+    Ok(())
+}
+
+// The answer to what a line asks, and what was told of its edit.
+fn answer_to<K, D, R>(
+    plane: &SealingPlane<K, D, R>,
+    asked: Result<Edit, LineFault>,
+) -> (Answer, Option<Told>)
+where
+    K: Naming,
+    D: Disk + Drop,
+    R: Wait + Clock + Log + Drop,
+    ensures answer { (x : Ask) → AsksFor asked x → IsAnswerTo x (answer_of_code result.0) }
+    ensures within { IsWithin result.1 (answer_of_code result.0) }
+    ensures ours { IfSome result.1 (λ t. t.store ≡ K.store) }
+{
+    match asked {
+        Ok(edit) => answer_of(outcome_of(plane, edit)),
+        Err(fault) => (Answer::Flags(Reply::NoEdit(fault)), None),
+    }
+}
+
+// What became of an edit: it is kept, wasn't taken, or isn't known to be kept. Each is of that edit,
+// by what alone could tell it: its ticket, or what a hall makes of its refusal or of its ticket.
+enum Outcome {
+    Kept(Ticket, Told),
+    Refused(Refusal),
+    Unknown(GivenUp),
+}
+
+// Waits for what becomes of an edit.
+fn outcome_of<K, D, R>(plane: &SealingPlane<K, D, R>, edit: Edit) -> Outcome
+where
+    K: Naming,
+    D: Disk + Drop,
+    R: Wait + Clock + Log + Drop,
+    // What became of the edit is of that edit: kept, by its ticket; not taken, by the refusal
+    // that a hall made of it; or not known to be kept, by its ticket, which a hall gave up.
+    ensures own { IsOutcomeOf (proposal_of edit) result }
+    // Where it is kept, what is told is of the plane's store and has at least its ticket's
+    // revision.
+    ensures ours { IsToldBy K.store result }
+{
+    let ticket = match plane.submit(edit) {
+        Ok(ticket) => ticket,
+        Err((refusal, _)) => return Outcome::Refused(refusal),
+    };
+    match plane.plane().wait(ticket) {
+        Ok((ticket, told, _)) => Outcome::Kept(ticket, told),
+        Err(given_up) => Outcome::Unknown(given_up),
+    }
+}
+
+// The answer to an edit of which this became, and what was told.
+fn answer_of(outcome: Outcome) -> (Answer, Option<Told>)
+    // Its ticket's revision, why it was refused, or `store-failed`.
+    ensures answer { answer_of_code result.0 ≡ answer_to_outcome outcome }
+    ensures told { result.1 ≡ told_by outcome }
+{
+    match outcome {
+        Outcome::Kept(ticket, told) => {
+            let reply = Reply::Revision(ticket.revision());
+            (Answer::Flags(reply), Some(told))
+        }
+        Outcome::Refused(refusal) => (answer_to_refused(refusal.fault()), None),
+        Outcome::Unknown(_) => (Answer::Flags(Reply::StoreFailed), None),
+    }
+}
+
+// The answer to an edit that wasn't taken: why.
+fn answer_to_refused(fault: SubmitFault) -> Answer
+    ensures { answer_of_code result ≡ answer_to_refusal fault }
+{
+    match fault {
+        SubmitFault::Stopped => Answer::Stopped,
+        SubmitFault::QueueFull => Answer::QueueFull,
+        SubmitFault::Edit(fault) => Answer::Flags(Reply::Refused(fault)),
+        SubmitFault::Memory => Answer::Flags(Reply::Refused(EditFault::Memory)),
+    }
+}
+
+// Keeps the greater of what was told.
+fn keep_greater(told: &mut Option<Told>, more: Option<Told>)
+    ensures kept { IsNoLess told.new told.old }
+    ensures more { IsNoLess told.new more }
+    ensures ours { (store : Identity) → IfSome told.old (λ t. t.store ≡ store)
+        → IfSome more (λ t. t.store ≡ store) → IfSome told.new (λ t. t.store ≡ store) }
+{
+    let Some(more) = more else {
+        return;
+    };
+    if !is_above(told, &more) {
+        *told = Some(more);
+    }
+}
+
+// Whether more was told than this.
+fn is_above(told: &Option<Told>, other: &Told) -> bool
+    ensures { MatchBool result
+        (IsSomeAnd told.now (λ f. front_revision other.now < front_revision f))
+        (IfSome told.now (λ f. front_revision f ≤ front_revision other.now)) }
+{
+    match told {
+        Some(told) => other.revision() < told.revision(),
+        None => false,
+    }
+}

@@ -1,0 +1,122 @@
+//! What a hall lends: evaluators of its board, and seats that are handed what is shown.
+
+ghost use Rattle.std.specs.Prelude.{◌≡◌, ◌⊎◌, ◌<◌, ◌≤◌, ◌+◌, ◌-◌, ◌++◌, ◌∷◌, [], ◌&&◌, None, Some};
+ghost use Rattle.std.specs.Prelude.{length, IfOk, IfSome, MatchOption, MatchResult, OnErr};
+ghost use Rattle.fp_group_commit.specs.Tokens.{front_revision};
+ghost use Rattle.fp_publish.specs.Seats.{IsNews, had_by};
+ghost use Rattle.fp_publish.specs.declared.board.TheConstants.{MOST_EVALUATORS};
+ghost use Rattle.fp_publish.specs.declared.seats.TheConstants.{MOST_SEATS};
+ghost use Rattle.fp_stream.specs.declared.hello.Hello.TheVariants.{Has};
+
+use super::{EvaluatorsUsed, Hall};
+use crate::naming::Naming;
+use fp_publish::{Evaluator, Handed, MOST_EVALUATORS, Seat, SeatsUsed};
+use fp_stream::Hello;
+use std::alloc::AllocError;
+use std::sync::Wait;
+
+impl<K: Naming, R: Wait + Drop> Hall<K, R> {
+    // ---- evaluators
+
+    /// An evaluator that nobody has.
+    pub fn evaluator(&mut self) -> Result<Evaluator, EvaluatorsUsed>
+        // `Ok`: it is of the plane's store, and is lent nothing.
+        ensures ours { IfOk result (λ e. (e.known.store ≡ K.store) × (e.lent ≡ None)) }
+        // `Ok`: it is one of those that nobody had, and isn't any more.
+        ensures lent { IfOk result (λ e. self.old.idle ≡ self.new.idle ++ e ∷ []) }
+        // Refused exactly where somebody has each; nothing has changed.
+        ensures used { OnErr result ((self.old.idle ≡ []) × (self.new ≡ self.old)) }
+        // Nothing else changes.
+        ensures rest { self.new ≡ record self.old { idle = self.new.idle } }
+    {
+        match self.idle.pop() {
+            Some(evaluator) => Ok(evaluator),
+            None => Err(EvaluatorsUsed),
+        }
+    }
+
+    /// Takes an evaluator back, at rest. It is let go of where none is out.
+    pub fn give_back(&mut self, evaluator: Evaluator)
+        // The evaluator is of the plane's store.
+        requires { evaluator.known.store ≡ K.store }
+        // Where fewer than 16 are here, it is one of those that nobody has, and is lent nothing.
+        ensures back { length self.old.idle < MOST_EVALUATORS → self.new.idle
+            ≡ self.old.idle ++ (record { known = evaluator.known; lent = None }) ∷ [] }
+        // Where all are here nothing changes.
+        ensures none_out { MOST_EVALUATORS ≤ length self.old.idle → self.new ≡ self.old }
+        // Nothing else changes.
+        ensures rest { self.new ≡ record self.old { idle = self.new.idle } }
+    {
+        let mut evaluator = evaluator;
+        evaluator.rest();
+        if self.idle.len() < MOST_EVALUATORS {
+            self.idle.push_reserved(evaluator);
+        }
+    }
+
+    // ---- subscribers
+
+    /// A seat for a subscriber that has this.
+    pub fn seat(&mut self, hello: Hello) -> Result<Seat, SeatsUsed>
+        // `Ok`: fewer than 32 were taken, one more is now, and the seat has what was said.
+        // `SeatsUsed` exactly where 32 are taken.
+        ensures taken { MatchResult result
+            (λ s. (self.old.taken < MOST_SEATS) × (self.new.taken ≡ self.old.taken + 1)
+            × (had_by s ≡ hello))
+            (λ _. (MOST_SEATS ≤ self.old.taken) × (self.new.taken ≡ self.old.taken)) }
+        // Nothing else changes.
+        ensures rest { self.new ≡ record self.old { taken = self.new.taken } }
+    {
+        self.seats.seat(hello)
+    }
+
+    /// Takes a seat back, so that one fewer is taken.
+    pub fn unseat(&mut self, seat: Seat)
+        ensures { self.new ≡ record self.old { taken = self.old.taken - 1 } }
+    {
+        self.seats.unseat(seat);
+    }
+
+    /// Hands what is shown to a subscriber that hasn't got it.
+    pub fn hand(&mut self, seat: &mut Seat) -> Result<Option<Handed>, AllocError>
+        // `Ok`: `None` exactly where the subscriber has this revision or a greater one. Else it
+        // is handed what is shown, and has its revision.
+        ensures handed { IfOk result (λ o. MatchOption o
+            (¬ IsNews (had_by seat.old) self.old.shown × (had_by seat.new ≡ had_by seat.old))
+            (λ h. IsNews (had_by seat.old) self.old.shown × (h ≡ self.old.shown)
+            × (had_by seat.new ≡ Has (front_revision self.old.shown)))) }
+        // `Ok`: what is handed is of the plane's store.
+        ensures ours { IfOk result (λ o. IfSome o (λ h. h.store ≡ K.store)) }
+        // `Err`: the seat is as it was.
+        ensures unchanged { OnErr result (seat.new ≡ seat.old) }
+        // `Err` only where there was something to hand.
+        ensures turn { OnErr result (IsNews (had_by seat.old) self.old.shown) }
+        // What was handed last is still there, or is what is shown.
+        ensures last { (self.new.handed ≡ self.old.handed)
+            ⊎ (self.new.handed ≡ Some self.old.shown) }
+        // Nothing else changes.
+        ensures rest { self.new ≡ record self.old { handed = self.new.handed } }
+    {
+        let view = self.board.view();
+        self.seats.hand(self.alloc, &view, seat)
+    }
+
+    /// How often it was looked who has left, up to an overflow. No clause speaks of it.
+    pub fn looks(&self) -> u64 {
+        self.looks
+    }
+
+    /// Looks who has left: nothing that is seen of the hall changes.
+    pub fn look(&mut self)
+        ensures { self.new ≡ self.old }
+    {
+        self.looks = self.looks.wrapping_add(1);
+    }
+
+    /// Whether nothing more is shown, and subscribers are to go.
+    pub fn is_closed(&self) -> bool
+        ensures { result ≡ (self.now.closing && self.now.ended) }
+    {
+        self.is_closing && self.has_ended
+    }
+}
