@@ -2,6 +2,7 @@ pub mod Canonical
 pub mod Crossing
 pub mod OneOutcome
 pub mod Parted
+mod Passed
 pub mod Ruled
 pub mod Told
 pub mod Timeless

@@ -2,7 +2,8 @@
 
 ghost use Rattle.std.specs.Prelude.{◌≡◌, true, Some, None, IfOk, IfErr};
 ghost use Rattle.std.specs.Prelude.{if◌then◌else◌};
-ghost use Rattle.std.specs.Prelude.{codes, option_map};
+ghost use Rattle.std.specs.Prelude.{◌≤◌, codes, length, option_map};
+ghost use Rattle.serde_json.specs.Data.{Members, depth, no_members, object};
 ghost use Rattle.serde_json.specs.Find.{get};
 ghost use Rattle.serde_json.specs.View.{view};
 ghost use Rattle.serde_json.specs.Written.{compact_text};
@@ -10,9 +11,11 @@ ghost use Rattle.fp_base.specs.Answer.{IsFirst};
 ghost use Rattle.fp_base.specs.Json.{json_of};
 ghost use Rattle.fp_base.specs.Ordered.{IsOrdered};
 ghost use Rattle.fp_base.specs.TreeView.{tree_view};
+ghost use Rattle.fp_base.specs.Whole.{is_whole};
 ghost use Rattle.fp_definition.specs.Choice.{IsChoice};
 ghost use Rattle.fp_definition.specs.Faults.{Tells};
 ghost use Rattle.fp_definition.specs.Resolving.{data_of};
+ghost use Rattle.fp_definition.specs.Spelled.{AreNoted};
 ghost use Rattle.fp_definition.specs.Targeting.{rule_in};
 ghost use Rattle.fp_definition.specs.Valid.{first_fault, IsValid, is_definition_text};
 ghost use Rattle.fp_definition.specs.Valid.{definition_in, is_text_of};
@@ -20,9 +23,11 @@ ghost use Rattle.fp_definition.specs.Valid.{definition_in, is_text_of};
 use crate::choice::{Choice, chosen};
 use crate::faults::DefFault;
 use crate::members::tested_members;
+use crate::reading::{Reading, read_definition};
 use crate::spelling::Spelled;
 use crate::text::{fitted, text_of};
 use fp_base::{Tree, read_tree};
+use fp_canonical::Unread;
 use fp_targeting::Rule;
 use json::Scratch;
 use serde_json::Value;
@@ -102,13 +107,19 @@ impl Definition {
 
     /// The definition whose canonical text the bytes are, and `None` exactly where they are no such
     /// text. The bytes are read once.
+    #[tactic(auto, using(fp_base::proofs::Reading::json_of_refused))]
     pub fn from_text(alloc: Global, text: &[u8]) -> Result<Option<Definition>, AllocError>
         ensures { IfOk result (λ o. o ≡ definition_in text.now) }
     {
-        let mut scratch = Scratch::new(alloc);
-        match read_tree(alloc, text, &mut scratch)? {
-            Some(tree) => spelled(alloc, &tree, text),
-            None => Ok(None),
+        let Ok(whole) = simdutf8::compat::from_utf8(text) else {
+            return Ok(None);
+        };
+        let mut room = Vec::new(alloc);
+        room.resize(text.len(), 0)?;
+        match read_definition(alloc, whole, room.as_mut_slice()) {
+            Ok(found) => read_through(alloc, text, found),
+            Err(Unread::Memory) => Err(AllocError),
+            Err(Unread::NotCanonical) => read_again(alloc, text),
         }
     }
 
@@ -166,6 +177,25 @@ fn made(alloc: Global, tree: &Tree<'_>, room: usize) -> Result<Definition, DefFa
     ensures refused { IfErr result (IsFirst Tells (first_fault (tree_view tree.now))) }
 {
     let spelled = text_of(alloc, tree, room)?;
+    finished(alloc, tree, spelled)
+}
+
+// The definition that a tree is, whose text meets the tests of its size.
+fn finished(alloc: Global, tree: &Tree<'_>, spelled: Spelled) -> Result<Definition, DefFault>
+    requires ordered { IsOrdered (tree_view tree.now) }
+    requires whole { is_whole (tree_view tree.now) ≡ true }
+    requires flat { depth (tree_view tree.now) ≤ DEEPEST_DEFINITION }
+    requires short { length spelled.text.items ≤ LONGEST_DEFINITION }
+    requires text { spelled.text.items ≡ compact_text (tree_view tree.now) }
+    requires reads { json_of spelled.text.items ≡ Some (tree_view tree.now) }
+    requires noted { (ms : Members) → tree_view tree.now ≡ object ms
+        → AreNoted spelled.text.items (option_map (λ v. v.items) spelled.variants)
+        spelled.metadata no_members ms }
+    ensures valid { IfOk result (λ _. IsValid (tree_view tree.now)) }
+    ensures text { IfOk result (λ d. d ≡ compact_text (tree_view tree.now)) }
+    ensures reads { IfOk result (λ d. json_of d ≡ Some (tree_view tree.now)) }
+    ensures refused { IfErr result (IsFirst Tells (first_fault (tree_view tree.now))) }
+{
     let rule = tested_members(alloc, tree)?;
     let Spelled {
         text,
@@ -178,6 +208,52 @@ fn made(alloc: Global, tree: &Tree<'_>, room: usize) -> Result<Definition, DefFa
     Ok(Definition { share })
 }
 
+// The definition that was read of its canonical text.
+#[tactic(auto, unfolding(crate::specs::Valid::is_text_of))]
+fn read_through(
+    alloc: Global,
+    text: &[u8],
+    found: Reading<'_>,
+) -> Result<Option<Definition>, AllocError>
+    requires text { text.now ≡ compact_text (tree_view found.tree) }
+    requires reads { json_of text.now ≡ Some (tree_view found.tree) }
+    requires ordered { IsOrdered (tree_view found.tree) }
+    requires whole { is_whole (tree_view found.tree) ≡ true }
+    requires flat { depth (tree_view found.tree) ≤ DEEPEST_DEFINITION }
+    requires noted { (ms : Members) → tree_view found.tree ≡ object ms
+        → AreNoted text.now (option_map (λ v. v.items) found.noted.variants)
+        found.noted.metadata no_members ms }
+    ensures { IfOk result (λ o.
+        o ≡ (if is_text_of text.now (tree_view found.entry.tree) then Some text.now else None)) }
+{
+    if text.len() > LONGEST_DEFINITION {
+        return Ok(None);
+    }
+    let Reading { tree, noted } = found;
+    let mut own = Vec::with_capacity(alloc, text.len())?;
+    own.extend_from_slice(text)?;
+    let spelled = Spelled {
+        text: own,
+        variants: noted.variants,
+        metadata: noted.metadata,
+    };
+    match finished(alloc, &tree, spelled) {
+        Ok(definition) => Ok(Some(definition)),
+        Err(fault) => no_definition(fault, text, &tree),
+    }
+}
+
+// The definition whose canonical text the bytes are, by reading them as any JSON.
+fn read_again(alloc: Global, text: &[u8]) -> Result<Option<Definition>, AllocError>
+    ensures { IfOk result (λ o. o ≡ definition_in text.now) }
+{
+    let mut scratch = Scratch::new(alloc);
+    match read_tree(alloc, text, &mut scratch)? {
+        Some(tree) => spelled(alloc, &tree, text),
+        None => Ok(None),
+    }
+}
+
 // The definition that a tree is, where the text that it was read from is its canonical one.
 #[tactic(auto, unfolding(crate::specs::Valid::is_text_of))]
 fn spelled(alloc: Global, tree: &Tree<'_>, text: &[u8]) -> Result<Option<Definition>, AllocError>
@@ -187,8 +263,7 @@ fn spelled(alloc: Global, tree: &Tree<'_>, text: &[u8]) -> Result<Option<Definit
 {
     // The printer asks for a little more room than it takes.
     match made(alloc, tree, text.len() + 2) {
-        Err(DefFault::Memory) => Err(AllocError),
-        Err(_) => Ok(None),
+        Err(fault) => no_definition(fault, text, tree),
         Ok(definition) => {
             if definition.text() == text {
                 Ok(Some(definition))
@@ -196,5 +271,22 @@ fn spelled(alloc: Global, tree: &Tree<'_>, text: &[u8]) -> Result<Option<Definit
                 Ok(None)
             }
         }
+    }
+}
+
+// There is none of this text and tree, which have the fault, unless memory was wanting.
+#[tactic(auto, unfolding(crate::specs::Valid::is_text_of))]
+fn no_definition(
+    fault: DefFault,
+    _text: &[u8],
+    _tree: &Tree<'_>,
+) -> Result<Option<Definition>, AllocError>
+    requires { IsFirst Tells (first_fault (tree_view _tree.now)) fault }
+    ensures { IfOk result (λ o.
+        o ≡ (if is_text_of _text.now (tree_view _tree.now) then Some _text.now else None)) }
+{
+    match fault {
+        DefFault::Memory => Err(AllocError),
+        _ => Ok(None),
     }
 }

@@ -7,6 +7,7 @@ mod faults;
 mod key;
 mod kind;
 mod members;
+mod reading;
 mod resolving;
 mod rules;
 mod spelling;

@@ -136,7 +136,7 @@ fn put_member(
 
 // Whether a name is this one, of which nothing was noted.
 #[inline(always)]
-fn is_first(name: &str, other: &str, is_new: bool) -> bool
+pub(crate) fn is_first(name: &str, other: &str, is_new: bool) -> bool
     ensures { result ≡ (bytes_eq name.now other.now && is_new) }
 {
     name == other && is_new

@@ -1,0 +1,3 @@
+mod Cuts
+mod Escaped
+pub mod Read

@@ -1,0 +1,169 @@
+//! Strings, as canonical text has them.
+
+ghost use Rattle.std.specs.Prelude.{◌≡◌, ◌<◌, ◌≤◌, ◌+◌, ◌∷◌, ◌++◌, [], true, false, IfSome, length, take, slice_range};
+ghost use Rattle.json.specs.Print.{escape, escape_byte, quoted};
+
+use crate::cursor::Cursor;
+use std::mem;
+
+// So many bytes of a long string are looked at together.
+const TOGETHER: usize = 64;
+
+impl<'a> Cursor<'a> {
+    // The string that comes next. One with escapes takes as much room as it has bytes.
+    #[inline(always)]
+    pub(crate) fn string(&mut self) -> Option<&'a str>
+        ensures spelled { IfSome result (λ s. self.old ≡ quoted s.now ++ self.new) }
+        ensures shorter { IfSome result (λ _. length self.new < length self.old) }
+    {
+        if !self.take(b'"') {
+            return None;
+        }
+        let text = self.rest;
+        let bytes = text.as_bytes();
+        let end = plain_len(bytes);
+        if end < bytes.len() && bytes[end] == b'"' {
+            self.rest = &text[end + 1..];
+            return Some(&text[..end]);
+        }
+        self.escaped()
+    }
+
+    // What is left of a string whose opening quote was passed.
+    #[inline(never)]
+    fn escaped(&mut self) -> Option<&'a str>
+        ensures spelled { IfSome result (λ s. 34 ∷ self.old ≡ quoted s.now ++ self.new) }
+        ensures shorter { IfSome result (λ _. length self.new < length self.old) }
+    {
+        let room = mem::take(&mut self.room);
+        let text = self.rest;
+        let bytes = text.as_bytes();
+        let (len, at) = unescaped(bytes, room)?;
+        if at >= bytes.len() || bytes[at] != b'"' {
+            return None;
+        }
+        self.rest = &text[at + 1..];
+        let (front, behind) = room.split_at_mut(len);
+        self.room = behind;
+        std::str::from_utf8(front).ok()
+    }
+}
+
+// How many bytes at the front a string has as they are. Most strings are short; of a long one many
+// are looked at together.
+#[inline(always)]
+fn plain_len(bytes: &[u8]) -> usize
+    ensures within { result ≤ length bytes.now }
+    ensures plain { escape (take result bytes.now) ≡ take result bytes.now }
+{
+    let few = short_len(&bytes[..bytes.len().min(TOGETHER)]);
+    if few < TOGETHER {
+        return few;
+    }
+    let known = plain_chunks(bytes, few);
+    known + short_len(&bytes[known..])
+}
+
+// The same, byte by byte.
+#[inline(always)]
+fn short_len(bytes: &[u8]) -> usize
+    ensures within { result ≤ length bytes.now }
+    ensures plain { escape (take result bytes.now) ≡ take result bytes.now }
+{
+    let mut len = 0;
+    while len < bytes.len() && is_plain(bytes[len]) {
+        len += 1;
+    }
+    len
+}
+
+// The same, by whole chunks behind what is known.
+#[inline(never)]
+fn plain_chunks(bytes: &[u8], known: usize) -> usize
+    requires within { known ≤ length bytes.now }
+    requires plain { escape (take known bytes.now) ≡ take known bytes.now }
+    ensures more { known ≤ result }
+    ensures within { result ≤ length bytes.now }
+    ensures plain { escape (take result bytes.now) ≡ take result bytes.now }
+{
+    let mut len = known;
+    while bytes.len() - len >= TOGETHER && are_plain(&bytes[len..len + TOGETHER]) {
+        len += TOGETHER;
+    }
+    len
+}
+
+// Whether a string has all these bytes as they are. It looks at all of them, so that a processor
+// looks at many at once.
+#[inline(always)]
+fn are_plain(bytes: &[u8]) -> bool
+    ensures { result ≡ true → escape bytes.now ≡ bytes.now }
+{
+    let mut plain = true;
+    for &byte in bytes {
+        plain &= is_plain(byte);
+    }
+    plain
+}
+
+// Whether a string has the byte as it is. Most are letters.
+#[inline(always)]
+#[tactic(auto, unfolding(json::specs::Print::escape_byte))]
+fn is_plain(byte: u8) -> bool
+    ensures { result ≡ true → escape_byte byte ≡ byte ∷ [] }
+{
+    byte > b'\\' || (byte >= 0x20 && byte != b'"' && byte != b'\\')
+}
+
+// Puts what a string stands for into the room: how many bytes it is, and where its spelling ends.
+fn unescaped(bytes: &[u8], room: &mut [u8]) -> Option<(usize, usize)>
+    ensures within { IfSome result (λ p. (p.0 ≤ length room.new) × (p.1 ≤ length bytes.now)) }
+    ensures spelled { IfSome result (λ p. take p.1 bytes.now ≡ escape (take p.0 room.new)) }
+    ensures same { length room.new ≡ length room.old }
+{
+    let mut at = 0;
+    let mut len = 0;
+    while at < bytes.len() && bytes[at] != b'"' {
+        if len >= room.len() {
+            return None;
+        }
+        let (byte, next) = byte_at(bytes, at)?;
+        room[len] = byte;
+        len += 1;
+        at = next;
+    }
+    Some((len, at))
+}
+
+// The byte whose spelling stands at a place, and the place behind that.
+#[inline(always)]
+fn byte_at(bytes: &[u8], at: usize) -> Option<(u8, usize)>
+    requires { at < length bytes.now }
+    ensures within { IfSome result (λ p. (at < p.1) × (p.1 ≤ length bytes.now)) }
+    ensures spelled { IfSome result (λ p. slice_range bytes.now at p.1 ≡ escape_byte p.0) }
+{
+    let byte = bytes[at];
+    if is_plain(byte) {
+        return Some((byte, at + 1));
+    }
+    if byte != b'\\' || bytes.len() - at < 2 {
+        return None;
+    }
+    Some((short(bytes[at + 1])?, at + 2))
+}
+
+// What a letter behind a backslash stands for.
+#[tactic(auto, unfolding(json::specs::Print::escape_byte))]
+fn short(letter: u8) -> Option<u8>
+    ensures { IfSome result (λ b. escape_byte b ≡ 92 ∷ letter ∷ []) }
+{
+    match letter {
+        b'"' | b'\\' => Some(letter),
+        b'b' => Some(8),
+        b't' => Some(9),
+        b'n' => Some(10),
+        b'f' => Some(12),
+        b'r' => Some(13),
+        _ => None,
+    }
+}

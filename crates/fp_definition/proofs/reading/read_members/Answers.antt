@@ -1,0 +1,68 @@
+use Rattle.std.proofs.Common.{◌≡◌, ◌∷◌, ◌++◌, [], length, option_map, false, sym, ap, subst, ◌∙◌, arith, rules}
+use Rattle.json.specs.Print.{quoted}
+use Rattle.serde_json.specs.Data.{member, no_members}
+use Rattle.serde_json.specs.Written.{comma_if, compact_text, members_text}
+use Rattle.fp_base.specs.Places.{AreBefore}
+use Rattle.fp_base.specs.TreeView.{Entry, tree_view, tree_members}
+use Rattle.fp_canonical.specs.Reads.{is_some_there}
+use Rattle.fp_canonical.proofs.Read.{members-all, members-more, members_before, read-end, read-on, sorted-on}
+use Rattle.fp_definition.specs.Spelled.{AreNoted}
+use Rattle.fp_definition.proofs.Passed.{name_text, past, past_name, same_passed}
+use Rattle.fp_definition.proofs.Spelled.{noted_more}
+use Rattle.fp_definition.proofs.reading.read_members.Goals as goal
+
+pub members-preserved : goal.members-preserved
+members-preserved c =
+    let l = c.members in
+    let ms = l.found.items in
+    let m : Entry = (c.in-Some.name, c.in_ok-value.value) in
+    let d = tree_view m.1 in
+    let one = c.next_name.new.self in
+    let two = c.read_member.new.cursor in
+    let pushed = c.in_ok-push.ensures.items in
+    let named : l.cursor ≡ comma_if (is_some_there ms) ++ (quoted m.0.now ++ 58 ∷ one) = search rules in
+    let behind : AreBefore m.0.now ms = search rules in
+    let read = c.in_ok-value.ensures.read in
+    let noted = c.read_member.new.noted in
+    let vs = option_map (λ v. v.items) l.noted.variants in (
+      read-on 31 ms c.args.cursor.now l.cursor l.invariant.0 m one two c.push.new.self.items pushed named read,
+      sorted-on ms m c.push.new.self.items l.invariant.1 behind pushed,
+      omega (arith, c.in_ok-value.ensures.shorter, c.in_ok-name.ensures.shorter, l.invariant.2),
+      λ before len.
+          let h = l.invariant.3 before len in
+          let all = before ++ c.args.cursor.now in
+          let name = name_text (is_some_there ms) m.0.now in
+          let behind_name = past_name all h.0 l.cursor one (is_some_there ms) m.0.now h.1 named in
+          let behind_value = past all (h.0 ++ name) one (compact_text d) two behind_name read.spelled in (
+            (h.0 ++ name) ++ compact_text d,
+            behind_value,
+            λ more.
+                subst (AreNoted ((h.0 ++ name) ++ compact_text d) (option_map (λ v. v.items) noted.variants) noted.metadata more)
+                (sym (ap (λ es. members_before es more) pushed ∙ members-more ms m more))
+                (c.in_ok-value.ensures.noted (h.0 ++ name) (len ∙ ap length behind_name) more
+                (members_before ms (member m.0.now d more))
+                (noted_more h.0 name vs l.noted.metadata (member m.0.now d more) (members_before ms (member m.0.now d more))
+                (h.2 (member m.0.now d more)))),
+          ),
+    )
+
+pub returns-clause-read : goal.returns-clause-read
+returns-clause-read c =
+    let l = c.members in
+    let end : l.cursor ≡ 125 ∷ c.next_name.new.self = search rules in
+    read-end 31 l.found.items c.args.cursor.now l.cursor l.invariant.0 c.next_name.new.self end
+
+pub returns-clause-noted : goal.returns-clause-noted
+returns-clause-noted c = λ before len.
+    let l = c.members in
+    let left = c.next_name.new.self in
+    let end : l.cursor ≡ 125 ∷ left = search rules in
+    let h = l.invariant.3 before len in
+    let all = tree_members l.found.items in
+    let vs = option_map (λ v. v.items) l.noted.variants in
+    let read = read-end 31 l.found.items c.args.cursor.now l.cursor l.invariant.0 left end in
+    let same = same_passed before (members_text false all) left c.args.cursor.now h.0 (125 ∷ []) read.spelled
+    (h.1 ∙ ap (λ xs. h.0 ++ xs) end) in
+    subst (λ xs. AreNoted xs vs l.noted.metadata no_members all) (sym same)
+    (noted_more h.0 (125 ∷ []) vs l.noted.metadata no_members all
+    (subst (AreNoted h.0 vs l.noted.metadata no_members) (members-all l.found.items) (h.2 no_members)))

@@ -1,0 +1,22 @@
+use Rattle.std.proofs.Common.{◌≡◌, ◌≤◌, ◌++◌, List, ℕ, length}
+use Rattle.serde_json.specs.Data.{Members}
+use Rattle.fp_base.specs.Sorted.{IsSorted}
+use Rattle.fp_base.specs.TreeView.{tree_members}
+use Rattle.fp_canonical.proofs.Read.{AreReadSoFar, members_before}
+use Rattle.fp_definition.specs.Spelled.{AreWithin, spelled, texts}
+use Rattle.fp_definition.proofs.reading.read_noting.Given as goal
+
+-- what was noted stands in what was passed
+abbrev pub invariant-members : goal.invariant-members
+invariant-members l =
+    AreReadSoFar 30 l.found.items l.initial.cursor l.cursor
+    × IsSorted (tree_members l.found.items)
+    × (length l.cursor ≤ length l.initial.cursor)
+    × ((before : List ℕ) → l.len ≡ length (before ++ l.initial.cursor) →
+    (passed : List ℕ)
+    × (before ++ l.initial.cursor ≡ passed ++ l.cursor)
+    × ((more : Members) → spelled passed l.variants.items (texts more) ≡ texts (members_before l.found.items more))
+    × AreWithin passed l.variants.items)
+
+abbrev pub decreases-members : goal.decreases-members
+decreases-members l = length l.cursor
