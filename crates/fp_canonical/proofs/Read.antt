@@ -1,13 +1,12 @@
 -- What is read of lists and objects, one by one.
-use Rattle.std.proofs.Common.{◌≡◌, ◌≤◌, ◌+◌, ℕ, List, [], ◌∷◌, ◌++◌, Bool, true, false, refl, sym, ap, subst, ◌∙◌, arith}
+use Rattle.std.proofs.Common.{◌≡◌, ◌+◌, ℕ, List, [], ◌∷◌, ◌++◌, Bool, true, false, refl, sym, ap, subst, ◌∙◌, arith}
 use Rattle.std.proofs.Common.{append_assoc}
 use Rattle.json.specs.Print.{quoted}
-use Rattle.serde_json.specs.Data.{Data, array, object, Items, no_items, item, Members, no_members, member, depth, items_depth, members_depth}
+use Rattle.serde_json.specs.Data.{Data, array, object, Items, no_items, item, Members, no_members, member}
 use Rattle.serde_json.specs.Written.{comma_if, compact_text, items_text, members_text}
 use Rattle.fp_base.specs.Places.{AreBefore}
 use Rattle.fp_base.specs.Sorted.{IsSorted}
 use Rattle.fp_base.specs.TreeView.{Entry, tree_view, tree_items, tree_members}
-use Rattle.fp_base.specs.Whole.{is_whole, items_whole, members_whole}
 use Rattle.fp_base.specs.declared.tree.Tree.{Tree}
 use Rattle.fp_base.proofs.Gatherings.{put-at_end}
 use Rattle.fp_base.proofs.Sorted.{sorted-put}
@@ -85,8 +84,8 @@ member-read limit later k d ms one two three left same first rest = record {
 pub no-member-read : (limit : ℕ) (later : Bool) (text left : List ℕ) → text ≡ 125 ∷ left → ReadsMembers limit later no_members text left
 no-member-read limit later text left same = record { spelled = same; ordered = tt; whole = refl; flat = omega arith; numbers = tt }
 
-pub object-read : (limit : ℕ) (ms : Members) (one two left : List ℕ) → one ≡ 123 ∷ two → IsSorted ms → ReadsMembers limit false ms two left →
-    Reads (limit + 1) (object ms) one left
+pub object-read : (limit : ℕ) (ms : Members) (one two left : List ℕ) → one ≡ 123 ∷ two → IsSorted ms →
+    ReadsMembers limit false ms two left → Reads (limit + 1) (object ms) one left
 object-read limit ms one two left same sorted r = record {
   spelled = same ∙ ap (λ xs. 123 ∷ xs) r.spelled;
   ordered = (sorted, r.ordered);

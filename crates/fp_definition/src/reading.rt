@@ -21,7 +21,8 @@ use std::alloc::Global;
 // So many members a definition has mostly, at most.
 const MEMBERS: usize = 5;
 
-// The tree of a text, and where the values of its variants, in their order, and its metadata stand in the text.
+// The tree of a text, and where the values of its variants, in their order, and its metadata stand
+// in the text.
 #[derive(Drop)]
 pub(crate) struct Reading<'a> {
     pub(crate) tree: Tree<'a>,

@@ -1,14 +1,11 @@
-use Rattle.std.proofs.Common.{◌≡◌, ◌≤◌, ◌∷◌, ◌++◌, [], length, true, false, sym, ap, subst, ◌∙◌, arith, rules, length-append}
+use Rattle.std.proofs.Common.{◌≡◌, ◌≤◌, ◌∷◌, ◌++◌, length, false, sym, ap, subst, ◌∙◌, arith, rules, length-append}
 use Rattle.json.specs.Print.{quoted}
-use Rattle.serde_json.specs.Data.{no_items, item, no_members, member, put}
+use Rattle.serde_json.specs.Data.{no_items, item}
 use Rattle.serde_json.specs.Written.{comma_if}
 use Rattle.fp_base.specs.Places.{AreBefore}
-use Rattle.fp_base.specs.Sorted.{IsSorted}
-use Rattle.fp_base.specs.TreeView.{Entry, tree_view, tree_members}
+use Rattle.fp_base.specs.TreeView.{Entry, tree_view}
 use Rattle.fp_base.specs.declared.tree.Tree.{Tree}
-use Rattle.fp_base.proofs.Gatherings.{put-at_end}
-use Rattle.fp_base.proofs.Sorted.{sorted-put}
-use Rattle.fp_canonical.specs.Reads.{ReadsItems, ReadsMembers, is_some_there}
+use Rattle.fp_canonical.specs.Reads.{ReadsItems, is_some_there}
 use Rattle.fp_canonical.proofs.Read.{item-read, items-all, items-more, items_before, no-item-read, read-end, read-on, sorted-on}
 use Rattle.fp_canonical.proofs.reading.+read.Goals as goal
 

@@ -1,12 +1,11 @@
-use Rattle.std.proofs.Common.{◌≡◌, ◌≤◌, ◌∷◌, ◌++◌, [], Some, length, option_map, false, refl, sym, ap, subst, ◌∙◌, arith}
+use Rattle.std.proofs.Common.{◌≡◌, ◌∷◌, [], Some, length, option_map, false, sym, ap, subst, ◌∙◌, arith}
 use Rattle.std.specs.Str.{IsUtf8}
-use Rattle.serde_json.specs.Data.{Members, depth, no_members, object}
+use Rattle.serde_json.specs.Data.{Members, no_members, object}
 use Rattle.serde_json.specs.Written.{compact_text, members_text}
 use Rattle.fp_base.specs.Json.{json_of}
 use Rattle.fp_base.specs.TreeView.{tree_members}
 use Rattle.fp_base.proofs.Printed.{reads_back}
 use Rattle.fp_base.proofs.Views.{view-Object}
-use Rattle.fp_canonical.specs.Reads.{Reads}
 use Rattle.fp_canonical.proofs.Read.{object-read}
 use Rattle.fp_definition.specs.Spelled.{AreNoted}
 use Rattle.fp_definition.proofs.Passed.{none_left}
@@ -19,7 +18,8 @@ returns-clause-reads c =
     let left = c.read_members.new.cursor in
     let opened : c.args.text.now ≡ 123 ∷ c.take.new.self = sym c.new-cursor.ensures ∙ c.take.ensures.taken c.if-not-take.false in
     let read = object-read 31 all c.args.text.now c.take.new.self left opened c.in_ok-members.ensures.sorted c.in_ok-members.ensures.read in
-    let whole = none_left c.args.text.now (compact_text (object all)) left read.spelled (omega (arith, c.left.ensures, c.if-left-gt0.false)) in
+    let none : length left ≡ 0 = omega (arith, c.left.ensures, c.if-left-gt0.false) in
+    let whole = none_left c.args.text.now (compact_text (object all)) left read.spelled none in
     ap json_of whole
     ∙ reads_back (object all) (subst IsUtf8 whole c.utf8.text, read.numbers) read.ordered read.whole (omega (arith, read.flat))
     ∙ ap Some (sym (view-Object members))

@@ -1,4 +1,4 @@
-use Rattle.std.proofs.Common.{◌≡◌, ◌-◌, ◌∷◌, ◌++◌, [], length, string_bytes, refl, sym, ap, subst, ◌∙◌, arith, rules, false}
+use Rattle.std.proofs.Common.{◌≡◌, ◌-◌, ◌∷◌, ◌++◌, [], string_bytes, refl, sym, ap, subst, ◌∙◌, arith, rules, false}
 use Rattle.json.specs.Print.{quoted}
 use Rattle.serde_json.specs.Data.{member, no_members}
 use Rattle.serde_json.specs.Written.{comma_if, compact_text, members_text}
@@ -24,7 +24,9 @@ members-preserved c =
     let named : l.cursor ≡ comma_if (is_some_there ms) ++ (quoted m.0.now ++ 58 ∷ one) = search rules in
     let behind : AreBefore m.0.now ms = search rules in
     let read = c.in_ok-value.ensures.read in
-    let v : Variant = record { name = c.in_ok-name-2.name; value = record { start = c.args.len - c.left.result; end = c.args.len - c.left-in-Some.result } } in
+    let start = c.args.len - c.left.result in
+    let end = c.args.len - c.left-in-Some.result in
+    let v : Variant = record { name = c.in_ok-name-2.name; value = record { start = start; end = end } } in
     let more_variants = c.in_ok-push-2.ensures.items in (
       read-on 30 ms c.args.cursor.now l.cursor l.invariant.0 m one two c.push.new.self.items pushed named read,
       sorted-on ms m c.push.new.self.items l.invariant.1 behind pushed,
@@ -37,7 +39,8 @@ members-preserved c =
           let behind_name = past_name all h.0 l.cursor one (is_some_there ms) m.0.now h.1 named in
           let behind_value = past all (h.0 ++ name) one bytes two behind_name read.spelled in
           let new = (h.0 ++ name) ++ bytes in
-          let there = at_new (h.0 ++ name) new bytes v.value refl (passed_len all (h.0 ++ name) one c.args.len c.left.result len behind_name c.left.ensures)
+          let there = at_new (h.0 ++ name) new bytes v.value refl
+          (passed_len all (h.0 ++ name) one c.args.len c.left.result len behind_name c.left.ensures)
           (passed_len all new two c.args.len c.left-in-Some.result len behind_value c.left-in-Some.ensures) in
           let named : string_bytes v.name ≡ m.0.now = search rules in (
             new,
