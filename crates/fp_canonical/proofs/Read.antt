@@ -1,26 +1,21 @@
 -- What is read of lists and objects, one by one.
-use Rattle.std.proofs.Common.{◌≡◌, ◌+◌, ℕ, List, [], ◌∷◌, ◌++◌, Bool, true, false, refl, sym, ap, subst, ◌∙◌, arith}
+use Rattle.std.proofs.Common.{◌≡◌, ◌+◌, ℕ, List, [], ◌∷◌, ◌++◌, Bool, true, false, refl, sym, ap}
+use Rattle.std.proofs.Common.{subst, ◌∙◌, arith}
 use Rattle.std.proofs.Common.{append_assoc}
 use Rattle.json.specs.Print.{quoted}
-use Rattle.serde_json.specs.Data.{Data, array, object, Items, no_items, item, Members, no_members, member}
+use Rattle.serde_json.specs.Data.{Data, array, object, Items, no_items, item, Members, no_members}
+use Rattle.serde_json.specs.Data.{member}
 use Rattle.serde_json.specs.Written.{comma_if, compact_text, items_text, members_text}
 use Rattle.fp_base.specs.Places.{AreBefore}
 use Rattle.fp_base.specs.Sorted.{IsSorted}
-use Rattle.fp_base.specs.TreeView.{Entry, tree_view, tree_items, tree_members}
+use Rattle.fp_base.specs.TreeView.{Entry, tree_view, tree_members}
 use Rattle.fp_base.specs.declared.tree.Tree.{Tree}
 use Rattle.fp_base.proofs.Gatherings.{put-at_end}
+use Rattle.fp_base.proofs.Read.{items_before}
 use Rattle.fp_base.proofs.Sorted.{sorted-put}
 use Rattle.fp_canonical.specs.Reads.{Reads, ReadsItems, ReadsMembers, is_some_there}
 
 -- ---- items
-
-abbrev pub items_before : List Tree → Items → Items
-items_before [] rest = rest
-items_before (t ∷ ts) rest = item (tree_view t) (items_before ts rest)
-
-pub items-all : (ts : List Tree) → items_before ts no_items ≡ tree_items ts
-items-all [] = refl
-items-all (t ∷ ts) = ap (item (tree_view t)) (items-all ts)
 
 pub items-more : (ts : List Tree) (t : Tree) (rest : Items) → items_before (ts ++ t ∷ []) rest ≡ items_before ts (item (tree_view t) rest)
 items-more [] t rest = refl
@@ -35,11 +30,10 @@ item-read limit later d ds one two three left same first rest = record {
   ordered = (first.ordered, rest.ordered);
   whole = rw (first.whole, rest.whole) refl;
   flat = omega (arith, first.flat, rest.flat);
-  numbers = (first.numbers, rest.numbers);
 }
 
 pub no-item-read : (limit : ℕ) (later : Bool) (text left : List ℕ) → text ≡ 93 ∷ left → ReadsItems limit later no_items text left
-no-item-read limit later text left same = record { spelled = same; ordered = tt; whole = refl; flat = omega arith; numbers = tt }
+no-item-read limit later text left same = record { spelled = same; ordered = tt; whole = refl; flat = omega arith }
 
 pub list-read : (limit : ℕ) (ds : Items) (one two left : List ℕ) → one ≡ 91 ∷ two → ReadsItems limit false ds two left →
     Reads (limit + 1) (array ds) one left
@@ -48,7 +42,6 @@ list-read limit ds one two left same r = record {
   ordered = r.ordered;
   whole = r.whole;
   flat = omega (arith, r.flat);
-  numbers = r.numbers;
 }
 
 -- ---- members
@@ -78,11 +71,10 @@ member-read limit later k d ms one two three left same first rest = record {
   ordered = (first.ordered, rest.ordered);
   whole = rw (first.whole, rest.whole) refl;
   flat = omega (arith, first.flat, rest.flat);
-  numbers = (first.numbers, rest.numbers);
 }
 
 pub no-member-read : (limit : ℕ) (later : Bool) (text left : List ℕ) → text ≡ 125 ∷ left → ReadsMembers limit later no_members text left
-no-member-read limit later text left same = record { spelled = same; ordered = tt; whole = refl; flat = omega arith; numbers = tt }
+no-member-read limit later text left same = record { spelled = same; ordered = tt; whole = refl; flat = omega arith }
 
 pub object-read : (limit : ℕ) (ms : Members) (one two left : List ℕ) → one ≡ 123 ∷ two → IsSorted ms →
     ReadsMembers limit false ms two left → Reads (limit + 1) (object ms) one left
@@ -91,7 +83,6 @@ object-read limit ms one two left same sorted r = record {
   ordered = (sorted, r.ordered);
   whole = r.whole;
   flat = omega (arith, r.flat);
-  numbers = r.numbers;
 }
 
 pub is_later : (ms : List Entry) (m : Entry) → is_some_there (ms ++ m ∷ []) ≡ true

@@ -1,6 +1,6 @@
 //! A place in a text, from which on it is read.
 
-ghost use Rattle.std.specs.Prelude.{◌≡◌, ◌<◌, ◌∷◌, ◌++◌, ℕ, List, true, false, length};
+ghost use Rattle.std.specs.Prelude.{◌≡◌, ◌<◌, ◌≤◌, ◌∷◌, ◌++◌, ℕ, List, true, false, length};
 
 use std::marker::Model;
 
@@ -13,16 +13,20 @@ pub struct Cursor<'a> {
 }
 
 impl<'a> Model for Cursor<'a> {
-    ghost use Rattle.std.specs.Prelude.{List, ℕ};
+    ghost use Rattle.std.specs.Prelude.{◌≤◌, List, ℕ, length};
 
     ghost Value = { List ℕ };
 
     ghost view = { λ a. a.rest.now };
+
+    ghost invariant = { λ a. length a.rest.now ≤ length a.room.now };
 }
 
 impl<'a> Cursor<'a> {
-    /// A cursor at the beginning of a text. As much room as the text has bytes is enough.
+    /// A cursor at the beginning of a text.
     pub fn new(text: &'a str, room: &'a mut [u8]) -> Cursor<'a>
+        // There is as much room as the text has bytes.
+        requires { length text.now ≤ length room.now }
         ensures { result ≡ text.now }
     {
         Cursor { rest: text, room }
@@ -60,6 +64,7 @@ impl<'a> Cursor<'a> {
     #[inline(always)]
     pub(crate) fn take_word(&mut self, word: &str) -> bool
         ensures taken { result ≡ true → self.old ≡ word.now ++ self.new }
+        ensures next { (rest : List ℕ) → self.old ≡ word.now ++ rest → result ≡ true }
     {
         match self.rest.strip_prefix(word) {
             Some(rest) => {
@@ -72,7 +77,9 @@ impl<'a> Cursor<'a> {
 
     // The next byte, or 0 at the end.
     #[inline(always)]
-    pub(crate) fn peek(&self) -> u8 {
+    pub(crate) fn peek(&self) -> u8
+        ensures { (byte : ℕ) (rest : List ℕ) → self.now ≡ byte ∷ rest → result ≡ byte }
+    {
         match self.rest.as_bytes().first() {
             Some(byte) => *byte,
             None => 0,

@@ -1,12 +1,18 @@
 //! From canonical text to a tree.
 
-ghost use Rattle.std.specs.Prelude.{ℕ, ◌≡◌, ◌<◌, ◌∷◌, ◌++◌, true, false, Ok, IfOk, IfSome, OnOk, MatchOption, length};
+ghost use Rattle.std.specs.Prelude.{ℕ, ◌≡◌, ◌≢◌, ◌<◌, ◌∷◌, ◌++◌, List, true, false, Ok, None, IfOk};
+ghost use Rattle.std.specs.Prelude.{IfSome, OnOk, MatchOption, MatchResult, length};
+ghost use Rattle.std.specs.Prelude.{is_some};
 ghost use Rattle.json.specs.Print.{quoted};
-ghost use Rattle.serde_json.specs.Written.{comma_if};
+ghost use Rattle.serde_json.specs.Data.{Data, Items, Members, Num, depth};
+ghost use Rattle.serde_json.specs.Find.{as_i64};
+ghost use Rattle.serde_json.specs.Written.{comma_if, number_text};
+ghost use Rattle.fp_base.specs.Ordered.{IsWritten};
 ghost use Rattle.fp_base.specs.Places.{AreBefore};
 ghost use Rattle.fp_base.specs.Sorted.{IsSorted};
 ghost use Rattle.fp_base.specs.TreeView.{tree_items, tree_members, tree_view};
-ghost use Rattle.fp_canonical.specs.Reads.{Reads, ReadsItems, ReadsMembers, is_some_there};
+ghost use Rattle.fp_canonical.specs.Reads.{Ends, Reads, ReadsItems, ReadsMembers, is_some_there};
+ghost use Rattle.fp_canonical.specs.declared.reading.Unread.TheVariants.{Memory};
 
 use crate::cursor::Cursor;
 use fp_base::Tree;
@@ -15,7 +21,7 @@ use std::alloc::{AllocError, AllocFailed, Global};
 /// Why nothing was read.
 #[derive(Debug, Drop)]
 pub enum Unread {
-    /// What comes next is no canonical text, or one that this crate leaves to other readers.
+    /// What comes next is no canonical text, or it nests too deep.
     NotCanonical,
     /// Memory ran out.
     Memory,
@@ -54,6 +60,14 @@ impl<'a> Cursor<'a> {
         // It comes behind theirs in the order of bytes.
         ensures behind { IfOk result (λ o. IfSome o (λ name. AreBefore name.now members.now)) }
         ensures shorter { OnOk result (length self.new < length self.old) }
+        // `None` wherever the brace comes next.
+        ensures ended { (left : List ℕ) → self.old ≡ 125 ∷ left → result ≡ Ok None }
+        // The name wherever one that stands behind theirs comes next.
+        ensures taken { (name left : List ℕ)
+            → self.old ≡ comma_if (is_some_there members.now) ++ (quoted name ++ 58 ∷ left)
+            → AreBefore name members.now
+            → MatchResult result
+            (λ o. MatchOption o ⊥ (λ found. (found.now ≡ name) × (self.new ≡ left))) (λ _. ⊥) }
     {
         if self.take(b'}') {
             return Ok(None);
@@ -73,6 +87,8 @@ impl<'a> Cursor<'a> {
     fn named(&mut self) -> Result<&'a str, Unread>
         ensures named { IfOk result (λ name. self.old ≡ quoted name.now ++ 58 ∷ self.new) }
         ensures shorter { OnOk result (length self.new < length self.old) }
+        ensures taken { (name left : List ℕ) → self.old ≡ quoted name ++ 58 ∷ left
+            → MatchResult result (λ found. (found.now ≡ name) × (self.new ≡ left)) (λ _. ⊥) }
     {
         let Some(name) = self.string() else {
             return Err(Unread::NotCanonical);
@@ -89,6 +105,9 @@ impl<'a> Cursor<'a> {
     fn next_item(&mut self, later: bool) -> Result<bool, Unread>
         ensures more { result ≡ Ok true → self.old ≡ comma_if later ++ self.new }
         ensures end { result ≡ Ok false → self.old ≡ 93 ∷ self.new }
+        ensures taken { (byte : ℕ) (left : List ℕ) → byte ≢ 93
+            → self.old ≡ comma_if later ++ byte ∷ left → result ≡ Ok true }
+        ensures ended { (left : List ℕ) → self.old ≡ 93 ∷ left → result ≡ Ok false }
     {
         if self.take(b']') {
             return Ok(false);
@@ -104,7 +123,8 @@ impl<'a> Cursor<'a> {
 #[inline(always)]
 fn comes_last(members: &[(&str, Tree<'_>)], name: &str) -> bool
     requires { IsSorted (tree_members members.now) }
-    ensures { result ≡ true → AreBefore name.now members.now }
+    ensures behind { result ≡ true → AreBefore name.now members.now }
+    ensures all { AreBefore name.now members.now → result ≡ true }
 {
     match members.last() {
         Some(last) => last.0.cmp(name).is_lt(),
@@ -121,6 +141,9 @@ pub fn read_value<'a>(
 ) -> Result<Tree<'a>, Unread>
     ensures read { IfOk result (λ t. Reads depth (tree_view t) cursor.old cursor.new) }
     ensures shorter { OnOk result (length cursor.new < length cursor.old) }
+    // What comes next is read wherever it is the canonical text of any data, if there is memory.
+    ensures taken { (d : Data) (left : List ℕ) → Reads depth d cursor.old left → Ends left
+        → MatchResult result (λ _. cursor.new ≡ left) (λ e. e ≡ Memory) }
 {
     if cursor.take(b'{') {
         if depth == 0 {
@@ -146,6 +169,8 @@ fn read_items<'a>(
     ensures read { IfOk result (λ v.
         ReadsItems depth false (tree_items v.items) cursor.old cursor.new) }
     ensures shorter { OnOk result (length cursor.new < length cursor.old) }
+    ensures taken { (ds : Items) (left : List ℕ) → ReadsItems depth false ds cursor.old left
+        → MatchResult result (λ _. cursor.new ≡ left) (λ e. e ≡ Memory) }
 {
     let mut found = Vec::new(alloc);
     let mut later = false;
@@ -167,6 +192,8 @@ fn read_members<'a>(
         ReadsMembers depth false (tree_members v.items) cursor.old cursor.new) }
     ensures sorted { IfOk result (λ v. IsSorted (tree_members v.items)) }
     ensures shorter { OnOk result (length cursor.new < length cursor.old) }
+    ensures taken { (ms : Members) (left : List ℕ) → ReadsMembers depth false ms cursor.old left
+        → IsSorted ms → MatchResult result (λ _. cursor.new ≡ left) (λ e. e ≡ Memory) }
 {
     let mut found: Vec<(&'a str, Tree<'a>)> = Vec::new(alloc);
     'members: while let Some(name) = cursor.next_name(found.as_slice())? {
@@ -182,6 +209,9 @@ fn read_scalar<'a>(cursor: &mut Cursor<'a>) -> Result<Tree<'a>, Unread>
     ensures read { (limit : ℕ)
         → IfOk result (λ t. Reads limit (tree_view t) cursor.old cursor.new) }
     ensures shorter { OnOk result (length cursor.new < length cursor.old) }
+    ensures taken { (limit : ℕ) (d : Data) (left : List ℕ) → depth d ≡ 0
+        → Reads limit d cursor.old left → Ends left
+        → MatchResult result (λ _. cursor.new ≡ left) (λ _. ⊥) }
 {
     match cursor.peek() {
         b'"' => read_string(cursor),
@@ -194,7 +224,7 @@ fn read_scalar<'a>(cursor: &mut Cursor<'a>) -> Result<Tree<'a>, Unread>
 
 // What a word stands for, if it was there.
 fn after(taken: bool, tree: Tree<'_>) -> Result<Tree<'_>, Unread>
-    ensures { IfOk result (λ t. (taken ≡ true) × (t ≡ tree.entry)) }
+    ensures { MatchResult result (λ t. (taken ≡ true) × (t ≡ tree.entry)) (λ _. taken ≡ false) }
 {
     if taken {
         Ok(tree)
@@ -208,6 +238,8 @@ fn read_string<'a>(cursor: &mut Cursor<'a>) -> Result<Tree<'a>, Unread>
     ensures read { (limit : ℕ)
         → IfOk result (λ t. Reads limit (tree_view t) cursor.old cursor.new) }
     ensures shorter { OnOk result (length cursor.new < length cursor.old) }
+    ensures taken { (s left : List ℕ) → cursor.old ≡ quoted s ++ left
+        → MatchResult result (λ _. cursor.new ≡ left) (λ _. ⊥) }
 {
     match cursor.string() {
         Some(text) => Ok(Tree::String(text)),
@@ -220,6 +252,9 @@ fn read_number<'a>(cursor: &mut Cursor<'a>) -> Result<Tree<'a>, Unread>
     ensures read { (limit : ℕ)
         → IfOk result (λ t. Reads limit (tree_view t) cursor.old cursor.new) }
     ensures shorter { OnOk result (length cursor.new < length cursor.old) }
+    ensures taken { (n : Num) (left : List ℕ) → IsWritten n → is_some (as_i64 n) ≡ true
+        → cursor.old ≡ number_text n ++ left → Ends left
+        → MatchResult result (λ _. cursor.new ≡ left) (λ _. ⊥) }
 {
     match cursor.number() {
         Some(number) => Ok(Tree::Number(number)),

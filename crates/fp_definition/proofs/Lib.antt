@@ -3,6 +3,7 @@ pub mod Crossing
 pub mod OneOutcome
 pub mod Parted
 mod Passed
+pub mod Refused
 pub mod Ruled
 pub mod Told
 pub mod Timeless

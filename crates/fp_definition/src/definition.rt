@@ -26,10 +26,9 @@ use crate::members::tested_members;
 use crate::reading::{Reading, read_definition};
 use crate::spelling::Spelled;
 use crate::text::{fitted, text_of};
-use fp_base::{Tree, read_tree};
+use fp_base::Tree;
 use fp_canonical::Unread;
 use fp_targeting::Rule;
-use json::Scratch;
 use serde_json::Value;
 use std::alloc::{AllocError, Global};
 use std::marker::Model;
@@ -40,9 +39,6 @@ pub const DEEPEST_DEFINITION: u32 = 32;
 
 /// The most bytes that a definition's canonical text has.
 pub const LONGEST_DEFINITION: usize = 16_384;
-
-// A definition's text is begun with this room where its length isn't known.
-const USUAL_ROOM: usize = 512;
 
 // What all shares have in common: the canonical text, what the definition chooses from, and the
 // rule of its `targeting`.
@@ -86,7 +82,7 @@ impl Definition {
         ensures refused { IfErr result (IsFirst Tells (first_fault (view value))) }
     {
         let tree = Tree::of_value(alloc, &value)?;
-        made(alloc, &tree, USUAL_ROOM)
+        made(alloc, &tree)
     }
 
     /// As `from_value`, of a tree of JSON.
@@ -102,7 +98,7 @@ impl Definition {
         // `Err`: the first fault that the data have, in the order of the tests, or `Memory`.
         ensures refused { IfErr result (IsFirst Tells (first_fault (tree_view tree.now))) }
     {
-        made(alloc, tree, USUAL_ROOM)
+        made(alloc, tree)
     }
 
     /// The definition whose canonical text the bytes are, and `None` exactly where they are no such
@@ -111,6 +107,9 @@ impl Definition {
     pub fn from_text(alloc: Global, text: &[u8]) -> Result<Option<Definition>, AllocError>
         ensures { IfOk result (λ o. o ≡ definition_in text.now) }
     {
+        if text.len() > LONGEST_DEFINITION {
+            return Ok(None);
+        }
         let Ok(whole) = simdutf8::compat::from_utf8(text) else {
             return Ok(None);
         };
@@ -119,7 +118,7 @@ impl Definition {
         match read_definition(alloc, whole, room.as_mut_slice()) {
             Ok(found) => read_through(alloc, text, found),
             Err(Unread::Memory) => Err(AllocError),
-            Err(Unread::NotCanonical) => read_again(alloc, text),
+            Err(Unread::NotCanonical) => Ok(None),
         }
     }
 
@@ -168,15 +167,15 @@ impl Definition {
     }
 }
 
-// The definition that a tree is. Its text is begun with room for so many bytes.
-fn made(alloc: Global, tree: &Tree<'_>, room: usize) -> Result<Definition, DefFault>
+// The definition that a tree is.
+fn made(alloc: Global, tree: &Tree<'_>) -> Result<Definition, DefFault>
     requires { IsOrdered (tree_view tree.now) }
     ensures valid { IfOk result (λ _. IsValid (tree_view tree.now)) }
     ensures text { IfOk result (λ d. d ≡ compact_text (tree_view tree.now)) }
     ensures reads { IfOk result (λ d. json_of d ≡ Some (tree_view tree.now)) }
     ensures refused { IfErr result (IsFirst Tells (first_fault (tree_view tree.now))) }
 {
-    let spelled = text_of(alloc, tree, room)?;
+    let spelled = text_of(alloc, tree)?;
     finished(alloc, tree, spelled)
 }
 
@@ -220,15 +219,13 @@ fn read_through(
     requires ordered { IsOrdered (tree_view found.tree) }
     requires whole { is_whole (tree_view found.tree) ≡ true }
     requires flat { depth (tree_view found.tree) ≤ DEEPEST_DEFINITION }
+    requires short { length text.now ≤ LONGEST_DEFINITION }
     requires noted { (ms : Members) → tree_view found.tree ≡ object ms
         → AreNoted text.now (option_map (λ v. v.items) found.noted.variants)
         found.noted.metadata no_members ms }
     ensures { IfOk result (λ o.
         o ≡ (if is_text_of text.now (tree_view found.entry.tree) then Some text.now else None)) }
 {
-    if text.len() > LONGEST_DEFINITION {
-        return Ok(None);
-    }
     let Reading { tree, noted } = found;
     let mut own = Vec::with_capacity(alloc, text.len())?;
     own.extend_from_slice(text)?;
@@ -240,37 +237,6 @@ fn read_through(
     match finished(alloc, &tree, spelled) {
         Ok(definition) => Ok(Some(definition)),
         Err(fault) => no_definition(fault, text, &tree),
-    }
-}
-
-// The definition whose canonical text the bytes are, by reading them as any JSON.
-fn read_again(alloc: Global, text: &[u8]) -> Result<Option<Definition>, AllocError>
-    ensures { IfOk result (λ o. o ≡ definition_in text.now) }
-{
-    let mut scratch = Scratch::new(alloc);
-    match read_tree(alloc, text, &mut scratch)? {
-        Some(tree) => spelled(alloc, &tree, text),
-        None => Ok(None),
-    }
-}
-
-// The definition that a tree is, where the text that it was read from is its canonical one.
-#[tactic(auto, unfolding(crate::specs::Valid::is_text_of))]
-fn spelled(alloc: Global, tree: &Tree<'_>, text: &[u8]) -> Result<Option<Definition>, AllocError>
-    requires { IsOrdered (tree_view tree.now) }
-    ensures { IfOk result (λ o.
-        o ≡ (if is_text_of text.now (tree_view tree.now) then Some text.now else None)) }
-{
-    // The printer asks for a little more room than it takes.
-    match made(alloc, tree, text.len() + 2) {
-        Err(fault) => no_definition(fault, text, tree),
-        Ok(definition) => {
-            if definition.text() == text {
-                Ok(Some(definition))
-            } else {
-                Ok(None)
-            }
-        }
     }
 }
 

@@ -1,15 +1,17 @@
 //! A definition, read from its canonical text.
 
-ghost use Rattle.std.specs.Prelude.{◌≡◌, ◌<◌, ◌≤◌, ◌++◌, ℕ, List, false, true, Some, IfOk, OnOk};
+ghost use Rattle.std.specs.Prelude.{◌≡◌, ◌<◌, ◌≤◌, ◌-◌, ◌++◌, [], ℕ, List, false, true, Some};
+ghost use Rattle.std.specs.Prelude.{IfErr, IfOk, OnOk, MatchResult};
 ghost use Rattle.std.specs.Prelude.{length, option_map};
-ghost use Rattle.serde_json.specs.Data.{Members, depth, member, no_members, object};
+ghost use Rattle.serde_json.specs.Data.{Data, Members, depth, member, no_members, object};
 ghost use Rattle.serde_json.specs.Written.{compact_text, members_text};
 ghost use Rattle.fp_base.specs.Json.{json_of};
 ghost use Rattle.fp_base.specs.Ordered.{IsOrdered};
 ghost use Rattle.fp_base.specs.Sorted.{IsSorted};
 ghost use Rattle.fp_base.specs.TreeView.{tree_members, tree_view};
 ghost use Rattle.fp_base.specs.Whole.{is_whole};
-ghost use Rattle.fp_canonical.specs.Reads.{Reads, ReadsMembers};
+ghost use Rattle.fp_canonical.specs.Reads.{Ends, Reads, ReadsMembers};
+ghost use Rattle.fp_canonical.specs.declared.reading.Unread.TheVariants.{Memory};
 ghost use Rattle.fp_definition.specs.Spelled.{AreAt, AreIn, AreNoted};
 
 use crate::definition::DEEPEST_DEFINITION;
@@ -42,6 +44,7 @@ pub(crate) fn read_definition<'a>(
     text: &'a str,
     room: &'a mut [u8],
 ) -> Result<Reading<'a>, Unread>
+    requires { length text.now ≤ length room.old }
     ensures text { IfOk result (λ r. text.now ≡ compact_text (tree_view r.tree)) }
     ensures reads { IfOk result (λ r. json_of text.now ≡ Some (tree_view r.tree)) }
     ensures ordered { IfOk result (λ r. IsOrdered (tree_view r.tree)) }
@@ -50,6 +53,9 @@ pub(crate) fn read_definition<'a>(
     ensures noted { IfOk result (λ r. (ms : Members) → tree_view r.tree ≡ object ms
         → AreNoted text.now (option_map (λ v. v.items) r.noted.variants) r.noted.metadata
         no_members ms) }
+    // It is read wherever the text is the canonical one of an object, if there is memory.
+    ensures taken { (ms : Members) → Reads DEEPEST_DEFINITION (object ms) text.now []
+        → IfErr result (λ e. e ≡ Memory) }
 {
     let mut cursor = Cursor::new(text, room);
     if !cursor.take(b'{') {
@@ -71,12 +77,16 @@ fn read_members<'a>(
 ) -> Result<(Vec<(&'a str, Tree<'a>)>, Noted), Unread>
     requires { length cursor.old ≤ len }
     ensures read { IfOk result (λ p.
-        ReadsMembers 31 false (tree_members p.0.items) cursor.old cursor.new) }
+        ReadsMembers (DEEPEST_DEFINITION - 1) false (tree_members p.0.items) cursor.old
+        cursor.new) }
     ensures sorted { IfOk result (λ p. IsSorted (tree_members p.0.items)) }
     ensures noted { IfOk result (λ p. (passed : List ℕ) → len ≡ length (passed ++ cursor.old)
         → AreNoted (passed ++ members_text false (tree_members p.0.items))
         (option_map (λ v. v.items) p.1.variants) p.1.metadata no_members
         (tree_members p.0.items)) }
+    ensures taken { (ms : Members) (left : List ℕ)
+        → ReadsMembers (DEEPEST_DEFINITION - 1) false ms cursor.old left → IsSorted ms
+        → MatchResult result (λ _. cursor.new ≡ left) (λ e. e ≡ Memory) }
 {
     let mut found: Vec<(&'a str, Tree<'a>)> = Vec::with_capacity(alloc, MEMBERS)?;
     let mut noted = Noted {
@@ -99,7 +109,8 @@ fn read_member<'a>(
     noted: &mut Noted,
 ) -> Result<Tree<'a>, Unread>
     requires { length cursor.old ≤ len }
-    ensures read { IfOk result (λ t. Reads 31 (tree_view t) cursor.old cursor.new) }
+    ensures read { IfOk result (λ t.
+        Reads (DEEPEST_DEFINITION - 1) (tree_view t) cursor.old cursor.new) }
     ensures shorter { OnOk result (length cursor.new < length cursor.old) }
     ensures noted { IfOk result (λ t. (passed : List ℕ) → len ≡ length (passed ++ cursor.old)
         → (left all : Members)
@@ -107,6 +118,9 @@ fn read_member<'a>(
         (member name.now (tree_view t) left) all
         → AreNoted (passed ++ compact_text (tree_view t))
         (option_map (λ v. v.items) noted.new.variants) noted.new.metadata left all) }
+    ensures taken { (d : Data) (left : List ℕ)
+        → Reads (DEEPEST_DEFINITION - 1) d cursor.old left → Ends left
+        → MatchResult result (λ _. cursor.new ≡ left) (λ e. e ≡ Memory) }
 {
     if is_first(name, "variants", noted.variants.is_none()) {
         let (value, variants) = read_variants(alloc, cursor, len)?;
@@ -130,10 +144,14 @@ fn read_variants<'a>(
     len: usize,
 ) -> Result<(Tree<'a>, Vec<Variant>), Unread>
     requires { length cursor.old ≤ len }
-    ensures read { IfOk result (λ p. Reads 31 (tree_view p.0) cursor.old cursor.new) }
+    ensures read { IfOk result (λ p.
+        Reads (DEEPEST_DEFINITION - 1) (tree_view p.0) cursor.old cursor.new) }
     ensures shorter { OnOk result (length cursor.new < length cursor.old) }
     ensures noted { IfOk result (λ p. (passed : List ℕ) → len ≡ length (passed ++ cursor.old)
         → AreIn (passed ++ compact_text (tree_view p.0)) p.1.items (Some (tree_view p.0))) }
+    ensures taken { (d : Data) (left : List ℕ)
+        → Reads (DEEPEST_DEFINITION - 1) d cursor.old left → Ends left
+        → MatchResult result (λ _. cursor.new ≡ left) (λ e. e ≡ Memory) }
 {
     if cursor.take(b'{') {
         let (members, variants) = read_noting(alloc, cursor, len)?;
@@ -151,12 +169,16 @@ fn read_noting<'a>(
 ) -> Result<(Vec<(&'a str, Tree<'a>)>, Vec<Variant>), Unread>
     requires { length cursor.old ≤ len }
     ensures read { IfOk result (λ p.
-        ReadsMembers 30 false (tree_members p.0.items) cursor.old cursor.new) }
+        ReadsMembers (DEEPEST_DEFINITION - 2) false (tree_members p.0.items) cursor.old
+        cursor.new) }
     ensures sorted { IfOk result (λ p. IsSorted (tree_members p.0.items)) }
     ensures shorter { OnOk result (length cursor.new < length cursor.old) }
     ensures noted { IfOk result (λ p. (passed : List ℕ) → len ≡ length (passed ++ cursor.old)
         → AreAt (passed ++ members_text false (tree_members p.0.items)) p.1.items
         (tree_members p.0.items)) }
+    ensures taken { (ms : Members) (left : List ℕ)
+        → ReadsMembers (DEEPEST_DEFINITION - 2) false ms cursor.old left → IsSorted ms
+        → MatchResult result (λ _. cursor.new ≡ left) (λ e. e ≡ Memory) }
 {
     let mut found: Vec<(&'a str, Tree<'a>)> = Vec::new(alloc);
     let mut variants = Vec::new(alloc);

@@ -39,8 +39,11 @@ pub(crate) struct Spelled {
     pub(crate) metadata: Option<Place>,
 }
 
-// The text of a tree, begun with room for so many bytes.
-pub(crate) fn spell(alloc: Global, tree: &Tree<'_>, room: usize) -> Result<Spelled, AllocError>
+// A text is begun with this room.
+const USUAL_ROOM: usize = 512;
+
+// The text of a tree.
+pub(crate) fn spell(alloc: Global, tree: &Tree<'_>) -> Result<Spelled, AllocError>
     requires whole { is_whole (tree_view tree.now) ≡ true }
     requires flat { depth (tree_view tree.now) ≤ max_depth }
     requires ordered { IsOrdered (tree_view tree.now) }
@@ -50,7 +53,7 @@ pub(crate) fn spell(alloc: Global, tree: &Tree<'_>, room: usize) -> Result<Spell
         → AreNoted s.text.items (option_map (λ v. v.items) s.variants) s.metadata no_members ms) }
 {
     let mut spelled = Spelled {
-        text: Vec::with_capacity(alloc, room)?,
+        text: Vec::with_capacity(alloc, USUAL_ROOM)?,
         variants: None,
         metadata: None,
     };

@@ -18,9 +18,8 @@ use crate::spelling::{Spelled, spell};
 use fp_base::Tree;
 use std::alloc::Global;
 
-// The canonical text of a tree that meets the tests of its size, with what was noted of it. It is begun with room for so many
-// bytes.
-pub(crate) fn text_of(alloc: Global, tree: &Tree<'_>, room: usize) -> Result<Spelled, DefFault>
+// The canonical text of a tree that meets the tests of its size, with what was noted of it.
+pub(crate) fn text_of(alloc: Global, tree: &Tree<'_>) -> Result<Spelled, DefFault>
     requires { IsOrdered (tree_view tree.now) }
     ensures whole { IfOk result (λ _. is_whole (tree_view tree.now) ≡ true) }
     ensures flat { IfOk result (λ _. depth (tree_view tree.now) ≤ DEEPEST_DEFINITION) }
@@ -32,7 +31,7 @@ pub(crate) fn text_of(alloc: Global, tree: &Tree<'_>, room: usize) -> Result<Spe
     ensures refused { IfErr result (IsFirst Tells (first_fault (tree_view tree.now))) }
 {
     tested_size(tree)?;
-    let spelled = spell(alloc, tree, room)?;
+    let spelled = spell(alloc, tree)?;
     if spelled.text.len() > LONGEST_DEFINITION {
         return Err(DefFault::TooLarge);
     }

@@ -9,4 +9,4 @@ pub loop-byte-preserved : goal.loop-byte-preserved
 loop-byte-preserved c plain =
     let p = and_parts _ _ plain in
     rw (take_more c.args.bytes.now c.loop-byte.byte-index 0 c.loop-byte-test.true)
-    (plain-more _ (_ ∷ []) (c.loop-byte.invariant p.0) (append-nil (escape_byte _) ∙ c.is_plain-plain.ensures p.1))
+    (plain-more _ (_ ∷ []) (c.loop-byte.invariant p.0) (append-nil (escape_byte _) ∙ c.is_plain-plain.ensures.plain p.1))

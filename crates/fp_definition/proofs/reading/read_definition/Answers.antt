@@ -1,4 +1,5 @@
-use Rattle.std.proofs.Common.{◌≡◌, ◌∷◌, [], Some, length, option_map, false, sym, ap, subst, ◌∙◌, arith}
+use Rattle.std.proofs.Common.{◌≡◌, ◌-◌, ◌∷◌, [], Some, length, option_map, false, sym, ap, subst}
+use Rattle.std.proofs.Common.{◌∙◌, arith}
 use Rattle.std.specs.Str.{IsUtf8}
 use Rattle.serde_json.specs.Data.{Members, no_members, object}
 use Rattle.serde_json.specs.Written.{compact_text, members_text}
@@ -6,7 +7,9 @@ use Rattle.fp_base.specs.Json.{json_of}
 use Rattle.fp_base.specs.TreeView.{tree_members}
 use Rattle.fp_base.proofs.Printed.{reads_back}
 use Rattle.fp_base.proofs.Views.{view-Object}
+use Rattle.fp_canonical.proofs.Digits.{has_numbers}
 use Rattle.fp_canonical.proofs.Read.{object-read}
+use Rattle.fp_definition.specs.Numbers.{DEEPEST_DEFINITION}
 use Rattle.fp_definition.specs.Spelled.{AreNoted}
 use Rattle.fp_definition.proofs.Passed.{none_left}
 use Rattle.fp_definition.proofs.reading.read_definition.Goals as goal
@@ -17,11 +20,13 @@ returns-clause-reads c =
     let all = tree_members members.items in
     let left = c.read_members.new.cursor in
     let opened : c.args.text.now ≡ 123 ∷ c.take.new.self = sym c.new-cursor.ensures ∙ c.take.ensures.taken c.if-not-take.false in
-    let read = object-read 31 all c.args.text.now c.take.new.self left opened c.in_ok-members.ensures.sorted c.in_ok-members.ensures.read in
+    let read = object-read (DEEPEST_DEFINITION - 1) all c.args.text.now c.take.new.self left opened
+    c.in_ok-members.ensures.sorted c.in_ok-members.ensures.read in
     let none : length left ≡ 0 = omega (arith, c.left.ensures, c.if-left-gt0.false) in
     let whole = none_left c.args.text.now (compact_text (object all)) left read.spelled none in
     ap json_of whole
-    ∙ reads_back (object all) (subst IsUtf8 whole c.utf8.text, read.numbers) read.ordered read.whole (omega (arith, read.flat))
+    ∙ reads_back (object all) (subst IsUtf8 whole c.utf8.text, has_numbers (object all) read.ordered read.whole)
+    read.ordered read.whole (omega (arith, read.flat))
     ∙ ap Some (sym (view-Object members))
 
 same : (ms ns : Members) → object ms ≡ object ns → ms ≡ ns

@@ -6,7 +6,8 @@ use Rattle.serde_json.specs.Written.{compact_text}
 use Rattle.fp_base.specs.TreeView.{tree_view}
 use Rattle.fp_definition.specs.declared.spelling.Place.{Place}
 use Rattle.fp_definition.proofs.Passed.{past, passed_len}
-use Rattle.fp_definition.proofs.Spelled.{at_new, is_noted, none_at, none_noted, noted_metadata, noted_other, noted_variants}
+use Rattle.fp_definition.proofs.Spelled.{at_new, is_noted, none_at, none_noted, noted_metadata}
+use Rattle.fp_definition.proofs.Spelled.{noted_other, noted_variants}
 use Rattle.fp_definition.proofs.reading.read_member.Goals as goal
 
 pub returns-then-is_first-clause-noted : goal.returns-then-is_first-clause-noted

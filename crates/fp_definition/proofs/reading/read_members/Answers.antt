@@ -1,15 +1,40 @@
-use Rattle.std.proofs.Common.{◌≡◌, ◌∷◌, ◌++◌, [], length, option_map, false, sym, ap, subst, ◌∙◌, arith, rules}
+use Rattle.std.proofs.Common.{Ok, Err, Some, None, drop, ◌≡◌, ◌-◌, ◌∷◌, ◌++◌, [], length}
+use Rattle.std.proofs.Common.{option_map, false, refl, sym, ap, subst, ◌∙◌, arith, rules}
 use Rattle.json.specs.Print.{quoted}
 use Rattle.serde_json.specs.Data.{member, no_members}
 use Rattle.serde_json.specs.Written.{comma_if, compact_text, members_text}
 use Rattle.fp_base.specs.Places.{AreBefore}
+use Rattle.fp_base.specs.Sorted.{IsSorted}
 use Rattle.fp_base.specs.TreeView.{Entry, tree_view, tree_members}
-use Rattle.fp_canonical.specs.Reads.{is_some_there}
-use Rattle.fp_canonical.proofs.Read.{members-all, members-more, members_before, read-end, read-on, sorted-on}
+use Rattle.fp_canonical.specs.Reads.{Reads, is_some_there}
+use Rattle.fp_canonical.proofs.Next.{AreLeft, all_left, member_here, member_named, member_refused}
+use Rattle.fp_canonical.proofs.Next.{members_next, members_over}
+use Rattle.fp_canonical.proofs.Read.{AreReadSoFar, members-all, members-more, members_before}
+use Rattle.fp_canonical.proofs.Read.{read-end, read-on, sorted-on}
+use Rattle.fp_definition.specs.Numbers.{DEEPEST_DEFINITION}
 use Rattle.fp_definition.specs.Spelled.{AreNoted}
 use Rattle.fp_definition.proofs.Passed.{name_text, past, past_name, same_passed}
 use Rattle.fp_definition.proofs.Spelled.{noted_more}
 use Rattle.fp_definition.proofs.reading.read_members.Goals as goal
+
+pub members-init : goal.members-init
+members-init c =
+    let none = c.in_ok-found.ensures.items in
+    let text = c.args.cursor.now in (
+      subst (λ es. AreReadSoFar (DEEPEST_DEFINITION - 1) es text text) (sym none) (λ more left r. r),
+      subst (λ es. IsSorted (tree_members es)) (sym none) tt,
+      omega arith,
+      λ ms left reads sorted.
+          subst (λ es. AreLeft (DEEPEST_DEFINITION - 1) es text left) (sym none)
+          (all_left (DEEPEST_DEFINITION - 1) ms text left reads sorted),
+      λ before len. (
+        before,
+        refl,
+        λ more.
+            subst (λ es. AreNoted before None None more (members_before es more)) (sym none)
+            record { variants = refl; metadata = refl },
+      ),
+    )
 
 pub members-preserved : goal.members-preserved
 members-preserved c =
@@ -25,11 +50,22 @@ members-preserved c =
     let read = c.in_ok-value.ensures.read in
     let noted = c.read_member.new.noted in
     let vs = option_map (λ v. v.items) l.noted.variants in (
-      read-on 31 ms c.args.cursor.now l.cursor l.invariant.0 m one two c.push.new.self.items pushed named read,
+      read-on (DEEPEST_DEFINITION - 1) ms c.args.cursor.now l.cursor l.invariant.0 m one two c.push.new.self.items pushed named read,
       sorted-on ms m c.push.new.self.items l.invariant.1 behind pushed,
       omega (arith, c.in_ok-value.ensures.shorter, c.in_ok-name.ensures.shorter, l.invariant.2),
+      λ all left reads sorted.
+          let some : c.next_name.result ≡ Ok (Some m.0) = search rules in
+          let n = member_here (DEEPEST_DEFINITION - 1) ms l.cursor left c.next_name.result m.0 some c.next_name.ensures.ended
+          (members_next (DEEPEST_DEFINITION - 1) ms l.cursor left (l.invariant.3 all left reads sorted)) in
+          let name = member_named (DEEPEST_DEFINITION - 1) ms l.cursor left c.next_name.result
+          (λ k rest found. (found.now ≡ k) × (one ≡ rest)) c.as_slice.result.now c.as_slice.ensures.value
+          c.next_name.ensures.taken m.0 some n in
+          let end = c.in_ok-value.ensures.taken n.d n.to
+          (subst (λ xs. Reads (DEEPEST_DEFINITION - 1) n.d xs n.to) (sym name.1) n.reads) n.ends in
+          subst (λ es. AreLeft (DEEPEST_DEFINITION - 1) es two left) (sym pushed)
+          (subst (λ xs. AreLeft (DEEPEST_DEFINITION - 1) (ms ++ m ∷ []) xs left) (sym end) (n.on m name.0)),
       λ before len.
-          let h = l.invariant.3 before len in
+          let h = l.invariant.4 before len in
           let all = before ++ c.args.cursor.now in
           let name = name_text (is_some_there ms) m.0.now in
           let behind_name = past_name all h.0 l.cursor one (is_some_there ms) m.0.now h.1 named in
@@ -50,19 +86,57 @@ pub returns-clause-read : goal.returns-clause-read
 returns-clause-read c =
     let l = c.members in
     let end : l.cursor ≡ 125 ∷ c.next_name.new.self = search rules in
-    read-end 31 l.found.items c.args.cursor.now l.cursor l.invariant.0 c.next_name.new.self end
+    read-end (DEEPEST_DEFINITION - 1) l.found.items c.args.cursor.now l.cursor l.invariant.0 c.next_name.new.self end
 
 pub returns-clause-noted : goal.returns-clause-noted
 returns-clause-noted c = λ before len.
     let l = c.members in
     let left = c.next_name.new.self in
     let end : l.cursor ≡ 125 ∷ left = search rules in
-    let h = l.invariant.3 before len in
+    let h = l.invariant.4 before len in
     let all = tree_members l.found.items in
     let vs = option_map (λ v. v.items) l.noted.variants in
-    let read = read-end 31 l.found.items c.args.cursor.now l.cursor l.invariant.0 left end in
+    let read = read-end (DEEPEST_DEFINITION - 1) l.found.items c.args.cursor.now l.cursor l.invariant.0 left end in
     let same = same_passed before (members_text false all) left c.args.cursor.now h.0 (125 ∷ []) read.spelled
     (h.1 ∙ ap (λ xs. h.0 ++ xs) end) in
     subst (λ xs. AreNoted xs vs l.noted.metadata no_members all) (sym same)
     (noted_more h.0 (125 ∷ []) vs l.noted.metadata no_members all
     (subst (AreNoted h.0 vs l.noted.metadata no_members) (members-all l.found.items) (h.2 no_members)))
+
+-- ---- what is taken
+
+pub returns-in_err-name-clause-taken : goal.returns-in_err-name-clause-taken
+returns-in_err-name-clause-taken c = λ all left reads sorted.
+    let l = c.members in
+    let ms = l.found.items in
+    let not : c.next_name.result ≡ Err c.in_err-name.field-0.0 = search rules in
+    absurd (member_refused (DEEPEST_DEFINITION - 1) ms l.cursor left c.next_name.result
+    (λ k rest found. (found.now ≡ k) × (c.next_name.new.self ≡ rest)) c.as_slice.result.now c.as_slice.ensures.value
+    c.next_name.ensures.taken c.in_err-name.field-0.0 not c.next_name.ensures.ended
+    (members_next (DEEPEST_DEFINITION - 1) ms l.cursor left (l.invariant.3 all left reads sorted)))
+
+pub returns-in_err-value-clause-taken : goal.returns-in_err-value-clause-taken
+returns-in_err-value-clause-taken c = λ all left reads sorted.
+    let l = c.members in
+    let ms = l.found.items in
+    let name = c.in-Some.name in
+    let some : c.next_name.result ≡ Ok (Some name) = search rules in
+    let n = member_here (DEEPEST_DEFINITION - 1) ms l.cursor left c.next_name.result name some c.next_name.ensures.ended
+    (members_next (DEEPEST_DEFINITION - 1) ms l.cursor left (l.invariant.3 all left reads sorted)) in
+    let so = member_named (DEEPEST_DEFINITION - 1) ms l.cursor left c.next_name.result
+    (λ k rest found. (found.now ≡ k) × (c.next_name.new.self ≡ rest)) c.as_slice.result.now c.as_slice.ensures.value
+    c.next_name.ensures.taken name some n in
+    let is = c.in_err-value.ensures.taken n.d n.to
+    (subst (λ xs. Reads (DEEPEST_DEFINITION - 1) n.d xs n.to) (sym so.1) n.reads) n.ends in search rules
+
+pub returns-clause-taken : goal.returns-clause-taken
+returns-clause-taken c = λ all left reads sorted.
+    let l = c.members in
+    let ms = l.found.items in
+    let none : c.next_name.result ≡ Ok None = search rules in
+    let end = members_over (DEEPEST_DEFINITION - 1) ms l.cursor left c.next_name.result
+    (λ k rest found. (found.now ≡ k) × (c.next_name.new.self ≡ rest)) c.as_slice.result.now c.as_slice.ensures.value
+    c.next_name.ensures.taken none
+    (members_next (DEEPEST_DEFINITION - 1) ms l.cursor left (l.invariant.3 all left reads sorted)) in
+    let ended : l.cursor ≡ 125 ∷ c.next_name.new.self = search rules in
+    ap (drop 1) (sym ended ∙ end)

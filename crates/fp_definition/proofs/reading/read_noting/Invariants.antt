@@ -1,17 +1,22 @@
-use Rattle.std.proofs.Common.{◌≡◌, ◌≤◌, ◌++◌, List, ℕ, length}
+use Rattle.std.proofs.Common.{◌≡◌, ◌≤◌, ◌-◌, ◌++◌, List, ℕ, length, false}
 use Rattle.serde_json.specs.Data.{Members}
 use Rattle.fp_base.specs.Sorted.{IsSorted}
 use Rattle.fp_base.specs.TreeView.{tree_members}
+use Rattle.fp_canonical.specs.Reads.{ReadsMembers}
+use Rattle.fp_canonical.proofs.Next.{AreLeft}
 use Rattle.fp_canonical.proofs.Read.{AreReadSoFar, members_before}
+use Rattle.fp_definition.specs.Numbers.{DEEPEST_DEFINITION}
 use Rattle.fp_definition.specs.Spelled.{AreWithin, spelled, texts}
 use Rattle.fp_definition.proofs.reading.read_noting.Given as goal
 
--- what was noted stands in what was passed
+-- where all members can be read, some are left; what was noted stands in what was passed
 abbrev pub invariant-members : goal.invariant-members
 invariant-members l =
-    AreReadSoFar 30 l.found.items l.initial.cursor l.cursor
+    AreReadSoFar (DEEPEST_DEFINITION - 2) l.found.items l.initial.cursor l.cursor
     × IsSorted (tree_members l.found.items)
     × (length l.cursor ≤ length l.initial.cursor)
+    × ((ms : Members) (left : List ℕ) → ReadsMembers (DEEPEST_DEFINITION - 2) false ms l.initial.cursor left → IsSorted ms →
+    AreLeft (DEEPEST_DEFINITION - 2) l.found.items l.cursor left)
     × ((before : List ℕ) → l.len ≡ length (before ++ l.initial.cursor) →
     (passed : List ℕ)
     × (before ++ l.initial.cursor ≡ passed ++ l.cursor)

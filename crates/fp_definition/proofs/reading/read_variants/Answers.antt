@@ -1,8 +1,11 @@
-use Rattle.std.proofs.Common.{◌≡◌, ◌∷◌, ◌++◌, [], Some, length, refl, sym, ap, subst, ◌∙◌, false, true≢false, append_assoc}
+use Rattle.std.proofs.Common.{◌≡◌, ◌-◌, ◌∷◌, ◌++◌, [], Some, length, refl, sym, ap, subst, ◌∙◌}
+use Rattle.std.proofs.Common.{false, true≢false, append_assoc, rules}
 use Rattle.serde_json.specs.Data.{Data, Members, object}
 use Rattle.serde_json.specs.Written.{compact_text, members_text}
 use Rattle.fp_base.specs.TreeView.{tree_members, tree_view}
 use Rattle.fp_base.proofs.Views.{view-Object}
+use Rattle.fp_canonical.proofs.Next.{object_here}
+use Rattle.fp_definition.specs.Numbers.{DEEPEST_DEFINITION}
 use Rattle.fp_definition.specs.Spelled.{AreAt}
 use Rattle.fp_definition.proofs.Passed.{past}
 use Rattle.fp_definition.proofs.reading.read_variants.Goals as goal
@@ -32,3 +35,13 @@ returns-clause-noted c = λ passed len ms is.
     let opened = sym (c.take.ensures.kept c.if-take.false) ∙ read.spelled
     ∙ ap (λ d. compact_text d ++ left) (unsome (tree_view c.in_ok-value.value) (object ms) is) in
     absurd (true≢false (sym (c.take.ensures.next (members_text false ms ++ left) opened) ∙ c.if-take.false))
+
+pub returns-in_err-members-clause-taken : goal.returns-in_err-members-clause-taken
+returns-in_err-members-clause-taken c = λ d left reads ends.
+    let here = object_here (DEEPEST_DEFINITION - 1) c.args.cursor.now c.take.new.self left d reads (c.take.ensures.taken c.if-take.true) in
+    let is = c.in_err-members.ensures.taken here.0 left here.3 here.1 in search rules
+
+pub returns-then-take-clause-taken : goal.returns-then-take-clause-taken
+returns-then-take-clause-taken c = λ d left reads ends.
+    let here = object_here (DEEPEST_DEFINITION - 1) c.args.cursor.now c.take.new.self left d reads (c.take.ensures.taken c.if-take.true) in
+    c.in_ok-members.ensures.taken here.0 left here.3 here.1

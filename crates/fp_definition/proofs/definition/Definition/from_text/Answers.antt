@@ -1,0 +1,19 @@
+use Rattle.std.proofs.Common.{◌≡◌, [], sym, subst, ◌∙◌, arith}
+use Rattle.serde_json.specs.Data.{object}
+use Rattle.fp_canonical.specs.Reads.{Reads}
+use Rattle.fp_canonical.specs.declared.reading.Unread.TheVariants.{Memory, NotCanonical}
+use Rattle.fp_definition.specs.Numbers.{DEEPEST_DEFINITION}
+use Rattle.fp_definition.proofs.Refused.{not_read, too_long}
+use Rattle.fp_definition.proofs.definition.Definition.from_text.Goals as goal
+
+pub returns-then-text-gt-LONGEST_DEFINITION : goal.returns-then-text-gt-LONGEST_DEFINITION
+returns-then-text-gt-LONGEST_DEFINITION c = sym (too_long c.args.text.now (omega (arith, c.if-text-gt-LONGEST_DEFINITION.true)))
+
+apart : NotCanonical ≡ Memory → ⊥
+apart h = cc
+
+pub returns : goal.returns
+returns c = sym (not_read c.args.text.now (λ ms reads.
+    let same : c.in-Ok.whole.now ≡ c.args.text.now = c.in-Ok.ensures.cases.0 in
+    apart (sym c.in-Err-NotCanonical.field-0-is
+    ∙ c.in-Err-NotCanonical.ensures.taken ms (subst (λ xs. Reads DEEPEST_DEFINITION (object ms) xs []) (sym same) reads))))
