@@ -19,3 +19,4 @@ pub mod Views
 pub mod Inside
 pub mod Counted
 pub mod Printed
+pub mod Unescaped

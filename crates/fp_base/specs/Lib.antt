@@ -15,3 +15,4 @@ pub mod Ordered
 pub mod Places
 pub mod Gathered
 pub mod Printed
+pub mod Unescaped

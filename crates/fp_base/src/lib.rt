@@ -1,6 +1,7 @@
 //! JSON values as flagplane takes them: whole numbers, bounded nesting, one canonical text.
 #![tactic(auto)]
 
+mod escaping;
 mod gathering;
 mod levels;
 mod members;
@@ -13,9 +14,10 @@ mod tree_reading;
 mod walks;
 mod writing;
 
+pub use escaping::{put_quoted, unescaped_len};
 pub use members::{take_from, take_member};
 pub use places::member_in_order;
-pub use texts::{canonical_text, canonical_text_within, put_quoted, read_json};
+pub use texts::{canonical_text, canonical_text_within, read_json};
 pub use tree::Tree;
 pub use tree_reading::read_tree;
 pub use walks::{nests_within, values_left, whole_numbers};

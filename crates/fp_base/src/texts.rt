@@ -1,9 +1,7 @@
 //! From bytes to a JSON value, and from a value to its one canonical text.
 
-ghost use Rattle.std.specs.Prelude.{◌≡◌, ◌≤◌, ◌∷◌, ◌++◌, [], true, Some, IfOk, OnOk, IfSome, option_map};
-ghost use Rattle.std.specs.Str.{IsUtf8};
-ghost use Rattle.json.specs.Print.{escape, escape_byte};
-ghost use Rattle.serde_json.specs.Data.{depth, string};
+ghost use Rattle.std.specs.Prelude.{◌≡◌, ◌≤◌, true, Some, IfOk, IfSome, option_map};
+ghost use Rattle.serde_json.specs.Data.{depth};
 ghost use Rattle.serde_json.specs.Read.{max_depth};
 ghost use Rattle.serde_json.specs.View.{view};
 ghost use Rattle.serde_json.specs.Written.{compact_text};
@@ -53,58 +51,6 @@ pub fn canonical_text_within(
         return Ok(None);
     }
     Ok(Some(text))
-}
-
-/// Puts a text as JSON writes it, in quotes and with what it needs escaped, behind what is there.
-pub fn put_quoted(alloc: Global, out: &mut Vec<u8>, text: &str) -> Result<(), AllocError>
-    ensures text { OnOk result (out.new.items
-        ≡ out.old.items ++ compact_text (string text.now)) }
-    ensures utf8 { IsUtf8 (compact_text (string text.now)) }
-{
-    if is_plain(text.as_bytes()) {
-        put_between_quotes(out, text.as_bytes())
-    } else {
-        put_escaped(alloc, out, text)
-    }
-}
-
-// Whether JSON writes the bytes of a string as they are. It looks at all of them, so that a
-// processor looks at many at once.
-fn is_plain(bytes: &[u8]) -> bool
-    ensures { result ≡ true → escape bytes.now ≡ bytes.now }
-{
-    let mut plain = true;
-    for &byte in bytes {
-        plain &= is_plain_byte(byte);
-    }
-    plain
-}
-
-#[tactic(auto, unfolding(json::specs::Print::escape_byte))]
-fn is_plain_byte(byte: u8) -> bool
-    ensures { result ≡ true → escape_byte byte ≡ byte ∷ [] }
-{
-    (byte >= 0x20) & (byte != b'"') & (byte != b'\\')
-}
-
-fn put_between_quotes(out: &mut Vec<u8>, bytes: &[u8]) -> Result<(), AllocError>
-    ensures { OnOk result (out.new.items ≡ out.old.items ++ 34 ∷ (bytes.now ++ 34 ∷ [])) }
-{
-    // All memory is taken first, so that a failure leaves what is there.
-    out.reserve(bytes.len() + 2)?;
-    out.push(b'"')?;
-    out.extend_from_slice(bytes)?;
-    out.push(b'"')?;
-    Ok(())
-}
-
-fn put_escaped(alloc: Global, out: &mut Vec<u8>, text: &str) -> Result<(), AllocError>
-    ensures { OnOk result (out.new.items ≡ out.old.items ++ compact_text (string text.now)) }
-{
-    let text = Value::String(String::from_str(alloc, text)?);
-    let quoted = text.to_vec(alloc)?;
-    out.extend_from_slice(&quoted)?;
-    Ok(())
 }
 
 /// The value that the bytes spell, `None` exactly where they are no JSON. A number out of range is

@@ -68,7 +68,7 @@ pub fn read_tree<'a>(
     // `Ok`: the tree is ordered.
     ensures ordered { IfOk result (λ o. IfSome o (λ tree. IsOrdered (tree_view tree))) }
 {
-    let Ok(text) = simdutf8::compat::from_utf8(bytes) else {
+    let Ok(text) = std::str::from_utf8(bytes) else {
         return Ok(None);
     };
     let mut reader = Reader::new(text, scratch)?;

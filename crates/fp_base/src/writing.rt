@@ -15,7 +15,7 @@ ghost use Rattle.fp_base.specs.Printed.{IsPrinted};
 ghost use Rattle.fp_base.specs.TreeView.{tree_view, tree_items, tree_members};
 ghost use Rattle.fp_base.specs.Whole.{is_whole, items_whole, members_whole};
 
-use crate::texts::put_quoted;
+use crate::escaping::put_quoted;
 use crate::tree::Tree;
 use serde_json::Number;
 use std::alloc::{AllocError, Global};
@@ -34,13 +34,13 @@ impl<'a> Tree<'a> {
         ensures reads { IfOk result (λ t. json_of t.items ≡ Some (tree_view self.now)) }
     {
         let mut out = Vec::with_capacity(alloc, room)?;
-        self.put_text(alloc, &mut out)?;
+        self.put_text(&mut out)?;
         Ok(out)
     }
 
     /// Puts the text without spaces behind what is there: the canonical text, where the tree is
     /// ordered.
-    pub fn put_text(&self, alloc: Global, out: &mut Vec<u8>) -> Result<(), AllocError>
+    pub fn put_text(&self, out: &mut Vec<u8>) -> Result<(), AllocError>
         // Each number is whole.
         requires { is_whole (tree_view self.now) ≡ true }
         ensures text { OnOk result (out.new.items
@@ -48,12 +48,12 @@ impl<'a> Tree<'a> {
         // `Ok`: that text is UTF-8, and each number in it is one of JSON.
         ensures printed { OnOk result (IsPrinted (tree_view self.now)) }
     {
-        put_tree(alloc, out, self)
+        put_tree(out, self)
     }
 }
 
 #[cycle(puts)]
-fn put_tree(alloc: Global, out: &mut Vec<u8>, tree: &Tree<'_>) -> Result<(), AllocError>
+fn put_tree(out: &mut Vec<u8>, tree: &Tree<'_>) -> Result<(), AllocError>
     requires { is_whole (tree_view tree.now) ≡ true }
     ensures text { OnOk result (out.new.items
         ≡ out.old.items ++ compact_text (tree_view tree.now)) }
@@ -64,14 +64,14 @@ fn put_tree(alloc: Global, out: &mut Vec<u8>, tree: &Tree<'_>) -> Result<(), All
         Tree::Bool(true) => out.extend_from_slice(b"true"),
         Tree::Bool(false) => out.extend_from_slice(b"false"),
         Tree::Number(number) => put_number(out, number),
-        Tree::String(text) => put_quoted(alloc, out, text),
-        Tree::Array(items) => put_items(alloc, out, items),
-        Tree::Object(members) => put_members(alloc, out, members),
+        Tree::String(text) => put_quoted(out, text),
+        Tree::Array(items) => put_items(out, items),
+        Tree::Object(members) => put_members(out, members),
     }
 }
 
 #[cycle(puts)]
-fn put_items(alloc: Global, out: &mut Vec<u8>, items: &Vec<Tree<'_>>) -> Result<(), AllocError>
+fn put_items(out: &mut Vec<u8>, items: &Vec<Tree<'_>>) -> Result<(), AllocError>
     requires { items_whole (tree_items items.now.items) ≡ true }
     ensures text { OnOk result (out.new.items
         ≡ out.old.items ++ 91 ∷ items_text false (tree_items items.now.items)) }
@@ -81,7 +81,7 @@ fn put_items(alloc: Global, out: &mut Vec<u8>, items: &Vec<Tree<'_>>) -> Result<
     let mut later = false;
     for item in items {
         put_comma(out, later)?;
-        put_tree(alloc, out, item)?;
+        put_tree(out, item)?;
         later = true;
     }
     out.push(b']')?;
@@ -89,11 +89,7 @@ fn put_items(alloc: Global, out: &mut Vec<u8>, items: &Vec<Tree<'_>>) -> Result<
 }
 
 #[cycle(puts)]
-fn put_members(
-    alloc: Global,
-    out: &mut Vec<u8>,
-    members: &Vec<(&str, Tree<'_>)>,
-) -> Result<(), AllocError>
+fn put_members(out: &mut Vec<u8>, members: &Vec<(&str, Tree<'_>)>) -> Result<(), AllocError>
     requires { members_whole (tree_members members.now.items) ≡ true }
     ensures text { OnOk result (out.new.items
         ≡ out.old.items ++ 123 ∷ members_text false (tree_members members.now.items)) }
@@ -102,8 +98,8 @@ fn put_members(
     out.push(b'{')?;
     let mut later = false;
     for member in members {
-        put_name(alloc, out, later, member.0)?;
-        put_tree(alloc, out, &member.1)?;
+        put_name(out, later, member.0)?;
+        put_tree(out, &member.1)?;
         later = true;
     }
     out.push(b'}')?;
@@ -135,14 +131,14 @@ fn put_comma(out: &mut Vec<u8>, later: bool) -> Result<(), AllocError>
 
 /// Puts the name of a member and its colon behind what is there, with a comma before them where a
 /// member stands there already.
-pub fn put_name(alloc: Global, out: &mut Vec<u8>, later: bool, name: &str) -> Result<(), AllocError>
+pub fn put_name(out: &mut Vec<u8>, later: bool, name: &str) -> Result<(), AllocError>
     ensures text { OnOk result (out.new.items
         ≡ out.old.items ++ (comma_if later ++ (quoted name.now ++ 58 ∷ []))) }
     // The quoted name is UTF-8.
     ensures utf8 { OnOk result (IsUtf8 (quoted name.now)) }
 {
     put_comma(out, later)?;
-    put_quoted(alloc, out, name)?;
+    put_quoted(out, name)?;
     out.push(b':')?;
     Ok(())
 }

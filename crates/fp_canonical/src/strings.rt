@@ -7,10 +7,8 @@ ghost use Rattle.std.specs.Char.{digit_char};
 ghost use Rattle.json.specs.Print.{escape, escape_byte, escape_letter, quoted};
 
 use crate::cursor::Cursor;
+use fp_base::unescaped_len;
 use std::mem;
-
-// So many bytes of a long string are looked at together.
-const TOGETHER: usize = 64;
 
 impl<'a> Cursor<'a> {
     // The string that comes next. One with escapes takes as much room as it has bytes.
@@ -26,7 +24,7 @@ impl<'a> Cursor<'a> {
         }
         let text = self.rest;
         let bytes = text.as_bytes();
-        let end = plain_len(bytes);
+        let end = unescaped_len(bytes);
         if end < bytes.len() && bytes[end] == b'"' {
             self.rest = &text[end + 1..];
             return Some(&text[..end]);
@@ -53,63 +51,6 @@ impl<'a> Cursor<'a> {
         self.room = behind;
         std::str::from_utf8(front).ok()
     }
-}
-
-// How many bytes at the front a string has as they are. Most strings are short; of a long one many
-// are looked at together.
-#[inline(always)]
-fn plain_len(bytes: &[u8]) -> usize
-    ensures within { result ≤ length bytes.now }
-    ensures plain { escape (take result bytes.now) ≡ take result bytes.now }
-{
-    let few = short_len(&bytes[..bytes.len().min(TOGETHER)]);
-    if few < TOGETHER {
-        return few;
-    }
-    let known = plain_chunks(bytes, few);
-    known + short_len(&bytes[known..])
-}
-
-// The same, byte by byte.
-#[inline(always)]
-fn short_len(bytes: &[u8]) -> usize
-    ensures within { result ≤ length bytes.now }
-    ensures plain { escape (take result bytes.now) ≡ take result bytes.now }
-{
-    let mut len = 0;
-    while len < bytes.len() && is_plain(bytes[len]) {
-        len += 1;
-    }
-    len
-}
-
-// The same, by whole chunks behind what is known.
-#[inline(never)]
-fn plain_chunks(bytes: &[u8], known: usize) -> usize
-    requires within { known ≤ length bytes.now }
-    requires plain { escape (take known bytes.now) ≡ take known bytes.now }
-    ensures more { known ≤ result }
-    ensures within { result ≤ length bytes.now }
-    ensures plain { escape (take result bytes.now) ≡ take result bytes.now }
-{
-    let mut len = known;
-    while bytes.len() - len >= TOGETHER && are_plain(&bytes[len..len + TOGETHER]) {
-        len += TOGETHER;
-    }
-    len
-}
-
-// Whether a string has all these bytes as they are. It looks at all of them, so that a processor
-// looks at many at once.
-#[inline(always)]
-fn are_plain(bytes: &[u8]) -> bool
-    ensures { result ≡ true → escape bytes.now ≡ bytes.now }
-{
-    let mut plain = true;
-    for &byte in bytes {
-        plain &= is_plain(byte);
-    }
-    plain
 }
 
 // Whether a string has the byte as it is. Most are letters.

@@ -110,7 +110,7 @@ impl Definition {
         if text.len() > LONGEST_DEFINITION {
             return Ok(None);
         }
-        let Ok(whole) = simdutf8::compat::from_utf8(text) else {
+        let Ok(whole) = std::str::from_utf8(text) else {
             return Ok(None);
         };
         let mut room = Vec::new(alloc);

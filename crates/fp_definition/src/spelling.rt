@@ -75,7 +75,7 @@ fn put_definition(alloc: Global, spelled: &mut Spelled, tree: &Tree<'_>) -> Resu
 {
     match tree {
         Tree::Object(members) => put_members(alloc, spelled, members),
-        _ => tree.put_text(alloc, &mut spelled.text),
+        _ => tree.put_text(&mut spelled.text),
     }
 }
 
@@ -98,7 +98,7 @@ fn put_members(
     spelled.text.push(b'{')?;
     let mut later = false;
     for member in members {
-        put_name(alloc, &mut spelled.text, later, member.0)?;
+        put_name(&mut spelled.text, later, member.0)?;
         put_member(alloc, spelled, member.0, &member.1)?;
         later = true;
     }
@@ -129,7 +129,7 @@ fn put_member(
         return Ok(());
     }
     let start = spelled.text.len();
-    value.put_text(alloc, &mut spelled.text)?;
+    value.put_text(&mut spelled.text)?;
     if is_first(name, "metadata", spelled.metadata.is_none()) {
         let end = spelled.text.len();
         spelled.metadata = Some(Place { start, end });
@@ -160,7 +160,7 @@ fn put_variants(
     match value {
         Tree::Object(members) => put_noting(alloc, text, members),
         _ => {
-            value.put_text(alloc, text)?;
+            value.put_text(text)?;
             Ok(Vec::new(alloc))
         }
     }
@@ -182,9 +182,9 @@ fn put_noting(
     text.push(b'{')?;
     let mut later = false;
     for member in members {
-        put_name(alloc, text, later, member.0)?;
+        put_name(text, later, member.0)?;
         let start = text.len();
-        member.1.put_text(alloc, text)?;
+        member.1.put_text(text)?;
         let end = text.len();
         let name = String::from_str(alloc, member.0)?;
         let value = Place { start, end };

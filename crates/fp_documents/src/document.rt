@@ -94,7 +94,7 @@ impl Document {
             let end = place.at + place.len;
             let old = &self.text[place.at..end];
             let definition = &place.flag.definition;
-            let new = put_in_place_of(alloc, &mut part, old, place.later, place.key, definition)?;
+            let new = put_in_place_of(&mut part, old, place.later, place.key, definition)?;
             let Some(new) = new else {
                 return Ok(false);
             };
@@ -120,7 +120,7 @@ pub fn document_of(
     let mut text = Vec::with_capacity(alloc, room)?;
     let mut lengths = Vec::with_capacity(alloc, flags.len())?;
     text.extend_from_slice(HEAD)?;
-    put_members(alloc, &mut text, &mut lengths, flags)?;
+    put_members(&mut text, &mut lengths, flags)?;
     text.push(b'}')?;
     Ok(Document {
         text,
@@ -130,7 +130,6 @@ pub fn document_of(
 }
 
 fn put_members(
-    alloc: Global,
     out: &mut Vec<u8>,
     lengths: &mut Vec<usize>,
     flags: &BTreeMap<FlagKey, Flag>,
@@ -144,7 +143,7 @@ fn put_members(
 {
     let mut later = false;
     for (key, flag) in flags.iter() {
-        let len = put_member(alloc, out, later, key, &flag.definition)?;
+        let len = put_member(out, later, key, &flag.definition)?;
         lengths.push(len)?;
         later = true;
     }
@@ -154,7 +153,6 @@ fn put_members(
 
 // Puts a flag's part, and answers how long it is.
 fn put_member(
-    alloc: Global,
     out: &mut Vec<u8>,
     later: bool,
     key: &FlagKey,
@@ -166,14 +164,13 @@ fn put_member(
         (part later (key_bytes key.now, record { definition = definition.now; changed = changed }))) }
 {
     let start = out.len();
-    put_head(alloc, out, later, key)?;
+    put_head(out, later, key)?;
     out.extend_from_slice(text_of(definition))?;
     Ok(out.len() - start)
 }
 
 // Puts it in place of an old part, where that is of the same key; else it answers `None`.
 fn put_in_place_of(
-    alloc: Global,
     out: &mut Vec<u8>,
     old: &[u8],
     later: bool,
@@ -189,7 +186,7 @@ fn put_in_place_of(
         (key_bytes key.now, record { definition = definition.now; changed = changed }))))) }
 {
     let start = out.len();
-    put_head(alloc, out, later, key)?;
+    put_head(out, later, key)?;
     if !old.starts_with(&out[start..]) {
         return Ok(None);
     }
@@ -198,13 +195,13 @@ fn put_in_place_of(
 }
 
 // Puts what a flag's part begins with.
-fn put_head(alloc: Global, out: &mut Vec<u8>, later: bool, key: &FlagKey) -> Result<(), AllocError>
+fn put_head(out: &mut Vec<u8>, later: bool, key: &FlagKey) -> Result<(), AllocError>
     ensures { OnOk result (out.new.items ≡ out.old.items ++ head later (key_bytes key.now)) }
 {
     if later {
         out.push(b',')?;
     }
-    put_quoted(alloc, out, key.as_str())?;
+    put_quoted(out, key.as_str())?;
     out.push(b':')?;
     Ok(())
 }
@@ -249,7 +246,7 @@ pub fn document_after(
         if flag.changed > before.revision {
             text.extend_from_slice(&before.text[from..at])?;
             let old = &before.text[at..end];
-            let new = put_in_place_of(alloc, &mut text, old, later, key, &flag.definition)?;
+            let new = put_in_place_of(&mut text, old, later, key, &flag.definition)?;
             let Some(new) = new else {
                 return Ok(None);
             };

@@ -25,5 +25,5 @@ pub use laws::{
     one_outcome, refusals_leave_no_trace, revisions_count_edits, sets_keep_their_limit,
 };
 pub use lent::{EditParts, LentPart};
-pub use line::{LONGEST_LINE, LineFault, PartFault, parse_line};
+pub use line::{LONGEST_LINE, LineFault, PartFault, parse_line, parse_line_with};
 pub use sums::{Sums, most_with, sums_after};

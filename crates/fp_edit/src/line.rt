@@ -111,15 +111,23 @@ pub(crate) enum Op {
 
 /// The edit that a line spells, or its first fault, with the place of the change in a set that it
 /// is of. The line comes without its newline, and a delete's `flag` isn't looked at.
-#[tactic(auto, unfolding(crate::specs::Line::line_of))]
 pub fn parse_line(alloc: Global, line: &[u8]) -> Result<Edit, LineFault>
+    ensures { Gives proposal_of Tells result (says.line_of line.now) }
+{
+    let mut scratch = Scratch::new(alloc);
+    parse_line_with(alloc, line, &mut scratch)
+}
+
+/// As `parse_line`, with what reading needs, which may be kept from line to line: to make it takes
+/// as long as to read a short line.
+#[tactic(auto, unfolding(crate::specs::Line::line_of))]
+pub fn parse_line_with(alloc: Global, line: &[u8], scratch: &mut Scratch) -> Result<Edit, LineFault>
     ensures { Gives proposal_of Tells result (says.line_of line.now) }
 {
     if line.len() > LONGEST_LINE {
         return Err(LineFault::TooLong);
     }
-    let mut scratch = Scratch::new(alloc);
-    match read_tree(alloc, line, &mut scratch)? {
+    match read_tree(alloc, line, scratch)? {
         Some(tree) => edit_in(alloc, &tree),
         None => Err(LineFault::NotJson),
     }

@@ -199,13 +199,13 @@ fn put_flag(
     match definition.resolve_in(alloc, key, data) {
         Ok(said) => {
             put_comma(out, later)?;
-            put_success(alloc, out, key.as_str(), definition.metadata(), &said)?;
+            put_success(out, key.as_str(), definition.metadata(), &said)?;
             Ok(true)
         }
         Err(EvalFault::Disabled) => Ok(later),
         Err(EvalFault::NoVariant) => {
             put_comma(out, later)?;
-            put_failure(alloc, out, Failure::NamesNoVariant, Some(key.as_str()))?;
+            put_failure(out, Failure::NamesNoVariant, Some(key.as_str()))?;
             Ok(true)
         }
         Err(EvalFault::Memory) => Err(AllocError),

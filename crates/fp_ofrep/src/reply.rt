@@ -44,7 +44,7 @@ pub(crate) fn failed(
         (λ r. response_seen r ≡ failure_response failure (option_copied key.entry)) }
 {
     let mut body = Vec::with_capacity(alloc, USUAL_ROOM)?;
-    put_failure(alloc, &mut body, failure, key)?;
+    put_failure(&mut body, failure, key)?;
     Ok(Reply {
         status: failure.status(),
         headers: Headers {

@@ -168,7 +168,7 @@ fn said_reply(
         (success (key_bytes key.now) (get (codes "metadata") (data_of definition.now)) s))) }
 {
     let mut body = Vec::with_capacity(alloc, USUAL_ROOM)?;
-    put_success(alloc, &mut body, key.as_str(), definition.metadata(), said)?;
+    put_success(&mut body, key.as_str(), definition.metadata(), said)?;
     Ok(Reply {
         status: StatusCode::OK,
         headers: Headers {

@@ -12,11 +12,10 @@ ghost use Rattle.fp_ofrep.specs.Bodies.{success, with_key, with_metadata};
 use crate::failure::Failure;
 use fp_base::put_quoted;
 use fp_definition::{Reason, Resolved};
-use std::alloc::{AllocError, Global};
+use std::alloc::AllocError;
 
 /// Puts a failure.
 pub(crate) fn put_failure(
-    alloc: Global,
     out: &mut Vec<u8>,
     failure: Failure,
     key: Option<&str>,
@@ -24,20 +23,20 @@ pub(crate) fn put_failure(
     ensures { OnOk result (out.new.items ≡ out.old.items
         ++ compact_text (failure_data failure (option_copied key.entry))) }
 {
-    put_text(alloc, out, b"{\"errorCode\":", failure.code())?;
-    put_text(alloc, out, b",\"errorDetails\":", failure.details())?;
-    end_failure(alloc, out, key)?;
+    put_text(out, b"{\"errorCode\":", failure.code())?;
+    put_text(out, b",\"errorDetails\":", failure.details())?;
+    end_failure(out, key)?;
     Ok(())
 }
 
 // Puts the key, if there is one, and the end of the object.
-fn end_failure(alloc: Global, out: &mut Vec<u8>, key: Option<&str>) -> Result<(), AllocError>
+fn end_failure(out: &mut Vec<u8>, key: Option<&str>) -> Result<(), AllocError>
     ensures { OnOk result (out.new.items
         ≡ out.old.items ++ members_text true (with_key (option_copied key.entry))) }
 {
     match key {
         Some(key) => {
-            put_text(alloc, out, b",\"key\":", key)?;
+            put_text(out, b",\"key\":", key)?;
             out.push(b'}')?;
             Ok(())
         }
@@ -49,16 +48,15 @@ fn end_failure(alloc: Global, out: &mut Vec<u8>, key: Option<&str>) -> Result<()
 }
 
 // Puts these bytes, and a text in quotes.
-fn put_text(alloc: Global, out: &mut Vec<u8>, before: &[u8], text: &str) -> Result<(), AllocError>
+fn put_text(out: &mut Vec<u8>, before: &[u8], text: &str) -> Result<(), AllocError>
     ensures { OnOk result (out.new.items ≡ out.old.items ++ (before.now ++ quoted text.now)) }
 {
     out.extend_from_slice(before)?;
-    put_quoted(alloc, out, text)
+    put_quoted(out, text)
 }
 
 /// Puts what a flag resolved to, with the text of its metadata.
 pub(crate) fn put_success(
-    alloc: Global,
     out: &mut Vec<u8>,
     key: &str,
     metadata: Option<&[u8]>,
@@ -69,9 +67,9 @@ pub(crate) fn put_success(
         → spelled_by said.now ≡ spelling s
         → out.new.items ≡ out.old.items ++ compact_text (success key.now m s)) }
 {
-    put_text(alloc, out, b"{\"key\":", key)?;
+    put_text(out, b"{\"key\":", key)?;
     put_metadata(out, metadata)?;
-    end_success(alloc, out, said)?;
+    end_success(out, said)?;
     Ok(())
 }
 
@@ -94,13 +92,13 @@ fn put_metadata(out: &mut Vec<u8>, metadata: Option<&[u8]>) -> Result<(), AllocE
 }
 
 // Puts reason, value and variant, and the end of the object.
-fn end_success(alloc: Global, out: &mut Vec<u8>, said: &Resolved<'_>) -> Result<(), AllocError>
+fn end_success(out: &mut Vec<u8>, said: &Resolved<'_>) -> Result<(), AllocError>
     ensures { OnOk result ((s : Said) → spelled_by said.now ≡ spelling s
         → out.new.items ≡ out.old.items ++ members_text true (said_members s)) }
 {
     out.extend_from_slice(before_value(said.reason))?;
     out.extend_from_slice(said.value)?;
-    put_text(alloc, out, b",\"variant\":", said.variant)?;
+    put_text(out, b",\"variant\":", said.variant)?;
     out.push(b'}')?;
     Ok(())
 }

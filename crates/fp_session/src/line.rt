@@ -8,7 +8,8 @@ ghost use Rattle.fp_session.specs.Lines as lines;
 ghost use Rattle.fp_session.specs.Lines.{line_up_to_limit};
 ghost use Rattle.fp_session.specs.Progress.{AsksFor};
 
-use fp_edit::{Edit, LONGEST_LINE, LineFault, parse_line};
+use fp_edit::{Edit, LONGEST_LINE, LineFault, parse_line_with};
+use json::Scratch;
 use memchr::memchr;
 use std::alloc::{AllocError, Global};
 use std::marker::Model;
@@ -17,6 +18,7 @@ use std::marker::Model;
 #[derive(Drop)]
 pub struct IncomingLine {
     bytes: Vec<u8>,
+    scratch: Scratch,
 }
 
 impl Model for IncomingLine {
@@ -37,6 +39,7 @@ impl IncomingLine {
     {
         IncomingLine {
             bytes: Vec::new(alloc),
+            scratch: Scratch::new(alloc),
         }
     }
 
@@ -60,21 +63,21 @@ impl IncomingLine {
         ensures limited { line_up_to_limit self.old ≡ self.old }
         ensures ended { self.new ≡ [] }
     {
-        let edit = asked_by(alloc, &self.bytes);
+        let edit = asked_by(alloc, &self.bytes, &mut self.scratch);
         self.bytes.clear();
         edit
     }
 }
 
 // What a line asks.
-fn asked_by(alloc: Global, line: &[u8]) -> Option<Result<Edit, LineFault>>
+fn asked_by(alloc: Global, line: &[u8], scratch: &mut Scratch) -> Option<Result<Edit, LineFault>>
     ensures { MatchOption result (lines.is_blank line.now ≡ true)
         (λ edit. (lines.is_blank line.now ≡ false) × AsksFor edit (line_of line.now)) }
 {
     if is_blank(line) {
         return None;
     }
-    match parse_line(alloc, line) {
+    match parse_line_with(alloc, line, scratch) {
         Ok(edit) => Some(Ok(edit)),
         Err(fault) => Some(Err(fault)),
     }

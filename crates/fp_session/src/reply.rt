@@ -207,18 +207,18 @@ fn detail_text(alloc: Global, fault: &DefFault) -> Result<Vec<u8>, AllocError>
     let mut text = Vec::from_slice(alloc, b"{\"detail\":\"")?;
     text.extend_from_slice(fault.as_str().as_bytes())?;
     text.extend_from_slice(b"\",\"error\":\"flag\"")?;
-    put_operator(alloc, &mut text, fault)?;
+    put_operator(&mut text, fault)?;
     text.extend_from_slice(b"}")?;
     Ok(text)
 }
 
-fn put_operator(alloc: Global, text: &mut Vec<u8>, fault: &DefFault) -> Result<(), AllocError>
+fn put_operator(text: &mut Vec<u8>, fault: &DefFault) -> Result<(), AllocError>
     ensures { OnOk result ((f : flag_fault.Fault) → flag.tells fault.now ≡ Some f
         → text.new.items ≡ text.old.items ++ say.operator_member f) }
 {
     if let DefFault::UnsupportedOperator(name) = fault {
         text.extend_from_slice(b",\"operator\":")?;
-        put_quoted(alloc, text, name.as_str())?;
+        put_quoted(text, name.as_str())?;
     }
     Ok(())
 }

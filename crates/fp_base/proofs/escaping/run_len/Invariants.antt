@@ -1,0 +1,11 @@
+use Rattle.std.proofs.Common.{◌≡◌, ◌+◌, ◌-◌, ◌≤◌, length, drop}
+use Rattle.std.specs.List.{prefix_len}
+use Rattle.fp_base.specs.Unescaped.{is_unescaped}
+use Rattle.fp_base.proofs.escaping.run_len.Given as goal
+
+abbrev pub invariant-loop-len : goal.invariant-loop-len
+invariant-loop-len l =
+    (prefix_len is_unescaped l.bytes ≡ l.len + prefix_len is_unescaped (drop l.len l.bytes)) × (l.len ≤ length l.bytes)
+
+abbrev pub decreases-loop-len : goal.decreases-loop-len
+decreases-loop-len l = length l.bytes - l.len

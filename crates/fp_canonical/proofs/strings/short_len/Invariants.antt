@@ -1,9 +1,0 @@
-use Rattle.std.proofs.Common.{length, take, ◌-◌, ◌≡◌, ◌≤◌}
-use Rattle.json.specs.Print.{escape}
-use Rattle.fp_canonical.proofs.strings.short_len.Given as goal
-
-abbrev pub invariant-loop-len : goal.invariant-loop-len
-invariant-loop-len l = (l.len ≤ length l.bytes) × (escape (take l.len l.bytes) ≡ take l.len l.bytes)
-
-abbrev pub decreases-loop-len : goal.decreases-loop-len
-decreases-loop-len l = length l.bytes - l.len
