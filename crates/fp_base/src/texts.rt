@@ -1,6 +1,7 @@
 //! From bytes to a JSON value, and from a value to its one canonical text.
 
-ghost use Rattle.std.specs.Prelude.{◌≡◌, ◌≤◌, true, Some, IfOk, IfSome, option_map};
+ghost use Rattle.std.specs.Prelude.{◌≡◌, ◌≤◌, true, Some, IfOk, IfSome, MatchOption, option_map};
+ghost use Rattle.std.specs.Str.{IsUtf8};
 ghost use Rattle.serde_json.specs.Data.{depth};
 ghost use Rattle.serde_json.specs.Read.{max_depth};
 ghost use Rattle.serde_json.specs.View.{view};
@@ -12,6 +13,22 @@ ghost use Rattle.fp_base.specs.Whole.{is_whole};
 use crate::walks::is_longer;
 use serde_json::Value;
 use std::alloc::{AllocError, Global};
+
+// From so many bytes on, a text is tested 64 bytes at a time: that is sooner done where all are
+// ASCII, and later where some aren't.
+const LONG: usize = 4_096;
+
+/// The text that the bytes are, `None` exactly where they aren't UTF-8.
+pub fn utf8_text(bytes: &[u8]) -> Option<&str>
+    ensures { MatchOption result (¬ (IsUtf8 bytes.now)) (λ text.
+        (text.now ≡ bytes.now) × IsUtf8 bytes.now) }
+{
+    if bytes.len() < LONG {
+        str::from_utf8(bytes).ok()
+    } else {
+        simdutf8::basic::from_utf8(bytes).ok()
+    }
+}
 
 /// The value's canonical text: no spaces, and the members in ascending order of their names' bytes.
 #[tactic(auto, using(crate::proofs::WholeData::has_float_whole, crate::proofs::Reading::json_of_read))]

@@ -12,6 +12,7 @@ ghost use Rattle.fp_base.specs.TreeView.{tree_view, tree_items, tree_members};
 
 use crate::gathering::Gathered;
 use crate::numbers::{number_in, number_tree};
+use crate::texts::utf8_text;
 use crate::tree::Tree;
 use json::{Invalid, Reader, Scratch, Token};
 use std::alloc::{AllocError, AllocFailed, Global};
@@ -68,7 +69,7 @@ pub fn read_tree<'a>(
     // `Ok`: the tree is ordered.
     ensures ordered { IfOk result (λ o. IfSome o (λ tree. IsOrdered (tree_view tree))) }
 {
-    let Ok(text) = std::str::from_utf8(bytes) else {
+    let Some(text) = utf8_text(bytes) else {
         return Ok(None);
     };
     let mut reader = Reader::new(text, scratch)?;

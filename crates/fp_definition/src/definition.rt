@@ -26,7 +26,7 @@ use crate::members::tested_members;
 use crate::reading::{Reading, read_definition};
 use crate::spelling::Spelled;
 use crate::text::{fitted, text_of};
-use fp_base::Tree;
+use fp_base::{Tree, utf8_text};
 use fp_canonical::Unread;
 use fp_targeting::Rule;
 use serde_json::Value;
@@ -110,7 +110,7 @@ impl Definition {
         if text.len() > LONGEST_DEFINITION {
             return Ok(None);
         }
-        let Ok(whole) = std::str::from_utf8(text) else {
+        let Some(whole) = utf8_text(text) else {
             return Ok(None);
         };
         let mut room = Vec::new(alloc);

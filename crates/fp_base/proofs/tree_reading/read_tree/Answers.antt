@@ -22,20 +22,20 @@ some-left (Some a) old new token_of P e h = (token_of a, h)
 pub returns-then-is_some-clause-value : goal.returns-then-is_some-clause-value
 returns-then-is_some-clause-value c =
     let bytes = c.args.bytes.now in
-    let begun = c.in_ok-reader.ensures.ok ∙ ap tokens c.in-Ok.ensures.cases.0 in
+    let begun = c.in_ok-reader.ensures.ok ∙ ap tokens c.in-Some.ensures.0 in
     let left = some-left c.next.result c.read.new.reader c.next.new.self _ _
     (sym c.is_some.ensures ∙ c.if-is_some.true) c.next.ensures.value in
-    let parsed = ap (λ ts. converted of_json (json.value 127 ts)) (sym begun) ∙ c.in-Ok-read.ensures.ok in
-    sym (json_of_refused bytes (λ utf8. text-with_more (json.value 127 (tokens bytes)) (tree_view c.in-Ok-read.tree)
+    let parsed = ap (λ ts. converted of_json (json.value 127 ts)) (sym begun) ∙ c.in-Ok.ensures.ok in
+    sym (json_of_refused bytes (λ utf8. text-with_more (json.value 127 (tokens bytes)) (tree_view c.in-Ok.tree)
     left.0 c.read.new.reader c.next.new.self parsed left.1))
 
 pub returns-else-is_some-clause-value : goal.returns-else-is_some-clause-value
 returns-else-is_some-clause-value c =
     let bytes = c.args.bytes.now in
-    let begun = c.in_ok-reader.ensures.ok ∙ ap tokens c.in-Ok.ensures.cases.0 in
+    let begun = c.in_ok-reader.ensures.ok ∙ ap tokens c.in-Some.ensures.0 in
     let over : c.read.new.reader ≡ [] =
     none-left c.next.result c.read.new.reader _ _ (sym c.is_some.ensures ∙ c.if-is_some.false) (λ h. h.0)
     c.next.ensures.value in
-    let parsed = ap (λ ts. converted of_json (json.value 127 ts)) (sym begun) ∙ c.in-Ok-read.ensures.ok in
-    sym (json_of_read bytes (tree_view c.in-Ok-read.tree) c.in-Ok.ensures.cases.1
-    (whole-text (json.value 127 (tokens bytes)) (tree_view c.in-Ok-read.tree) c.read.new.reader parsed over))
+    let parsed = ap (λ ts. converted of_json (json.value 127 ts)) (sym begun) ∙ c.in-Ok.ensures.ok in
+    sym (json_of_read bytes (tree_view c.in-Ok.tree) c.in-Some.ensures.1
+    (whole-text (json.value 127 (tokens bytes)) (tree_view c.in-Ok.tree) c.read.new.reader parsed over))

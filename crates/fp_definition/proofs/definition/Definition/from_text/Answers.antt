@@ -14,6 +14,6 @@ apart h = cc
 
 pub returns : goal.returns
 returns c = sym (not_read c.args.text.now (λ ms reads.
-    let same : c.in-Ok.whole.now ≡ c.args.text.now = c.in-Ok.ensures.cases.0 in
+    let same : c.in-Some.whole.now ≡ c.args.text.now = c.in-Some.ensures.0 in
     apart (sym c.in-Err-NotCanonical.field-0-is
     ∙ c.in-Err-NotCanonical.ensures.taken ms (subst (λ xs. Reads DEEPEST_DEFINITION (object ms) xs []) (sym same) reads))))
