@@ -118,8 +118,8 @@ pub fn parse_line(alloc: Global, line: &[u8]) -> Result<Edit, LineFault>
     parse_line_with(alloc, line, &mut scratch)
 }
 
-/// As `parse_line`, with what reading needs, which may be kept from line to line: to make it takes
-/// as long as to read a short line.
+/// As `parse_line`, with what reading needs, which may be kept from line to line: its 16 KB are then
+/// cleared once. It grows by as many bytes as the longest line has.
 #[tactic(auto, unfolding(crate::specs::Line::line_of))]
 pub fn parse_line_with(alloc: Global, line: &[u8], scratch: &mut Scratch) -> Result<Edit, LineFault>
     ensures { Gives proposal_of Tells result (says.line_of line.now) }
