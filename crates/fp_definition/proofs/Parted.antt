@@ -1,6 +1,6 @@
 -- Variants in ascending order of their names, parted in two: in which part a name is looked up.
 use Rattle.std.proofs.Common.{◌≡◌, ℕ, List, [], ◌∷◌, ◌++◌, true, false, true≢false, Some, None, Ordering, Less, Equal}
-use Rattle.std.proofs.Common.{Greater, nat_cmp, string_bytes, refl, sym, ap, subst, ◌∙◌}
+use Rattle.std.proofs.Common.{Greater, nat_cmp, refl, sym, ap, subst, ◌∙◌}
 use Rattle.std.specs.Ordering.{is_gt, match_ordering}
 use Rattle.std.specs.Cmp.Lexicographic.{slice_cmp}
 use Rattle.std.proofs.lemmas.Cmp.{nat_list_cmp_total}
@@ -16,7 +16,7 @@ abbrev cmp : List ℕ → List ℕ → Ordering
 cmp = slice_cmp nat_cmp
 
 abbrev name_of : Variant → List ℕ
-name_of e = string_bytes e.name
+name_of e = e.name.bytes
 
 pub greater : (o : Ordering) → is_gt o ≡ true → o ≡ Greater
 greater Less h = absurd (true≢false (sym h))

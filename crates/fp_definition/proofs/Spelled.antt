@@ -1,6 +1,6 @@
 -- Places in a text that grows.
 use Rattle.std.proofs.Common.{◌≡◌, ◌-◌, ℕ, List, [], ◌∷◌, ◌++◌, Bool, true, false, Option, Some, None, codes, length}
-use Rattle.std.proofs.Common.{take, take_all, drop, slice_range, string_bytes, refl, sym, ap, ap₂, subst, ◌∙◌, arith}
+use Rattle.std.proofs.Common.{take, take_all, drop, slice_range, refl, sym, ap, ap₂, subst, ◌∙◌, arith}
 use Rattle.std.proofs.Common.{length-append, append_assoc, true≢false, option_map, Vec, Global}
 use Rattle.std.proofs.Math.Seq.{drop-append_seam}
 use Rattle.std.proofs.lemmas.List.{drop-append-le, length-drop, take-append-le}
@@ -41,16 +41,16 @@ pub spelled_more : (text more : List ℕ) (vs : List Variant) (rest : Members) �
     spelled (text ++ more) vs rest ≡ spelled text vs rest
 spelled_more text more [] rest h = refl
 spelled_more text more (v ∷ vs) rest h =
-    ap₂ (λ x ms. member (string_bytes v.name) (string x) ms) (at_more text more v.value h.0) (spelled_more text more vs rest h.1)
+    ap₂ (λ x ms. member v.name.bytes (string x) ms) (at_more text more v.value h.0) (spelled_more text more vs rest h.1)
 
 pub all_more : (text more : List ℕ) (vs : List Variant) → AreWithin text vs → AreWithin (text ++ more) vs
 all_more text more [] h = tt
 all_more text more (v ∷ vs) h = (within_more text more v.value h.0, all_more text more vs h.1)
 
 pub spelled_push : (text : List ℕ) (vs : List Variant) (v : Variant) (rest : Members) →
-    spelled text (vs ++ v ∷ []) rest ≡ spelled text vs (member (string_bytes v.name) (string (at text v.value)) rest)
+    spelled text (vs ++ v ∷ []) rest ≡ spelled text vs (member v.name.bytes (string (at text v.value)) rest)
 spelled_push text [] v rest = refl
-spelled_push text (w ∷ vs) v rest = ap (member (string_bytes w.name) (string (at text w.value))) (spelled_push text vs v rest)
+spelled_push text (w ∷ vs) v rest = ap (member w.name.bytes (string (at text w.value))) (spelled_push text vs v rest)
 
 in_more : (text more : List ℕ) (vs : List Variant) (found : Option Data) → AreIn text vs found → AreIn (text ++ more) vs found
 in_more text more vs found h ms is = let a = h ms is in
@@ -65,7 +65,7 @@ at_all_more text more p found h = (h.0, h.1, at_more text more p h.3 ∙ h.2, wi
 
 -- a variant more, whose name and value were put behind the text
 module _ (text name new bytes : List ℕ) (vs : List Variant) (v : Variant) (k : List ℕ) (rest : Members) where
-  pub noted_spelled : new ≡ (text ++ name) ++ bytes → AreWithin text vs → string_bytes v.name ≡ k → at new v.value ≡ bytes
+  pub noted_spelled : new ≡ (text ++ name) ++ bytes → AreWithin text vs → v.name.bytes ≡ k → at new v.value ≡ bytes
       → spelled new (vs ++ v ∷ []) rest ≡ spelled text vs (member k (string bytes) rest)
   noted_spelled same within named there =
       spelled_push new vs v rest ∙ ap₂ (λ l x. spelled new vs (member l (string x) rest)) named there

@@ -1,5 +1,5 @@
 -- What a definition chooses from.
-use Rattle.std.specs.Prelude.{◌≡◌, ℕ, List, codes, true, None, Some, MatchOption, is_some, string_bytes}
+use Rattle.std.specs.Prelude.{◌≡◌, ℕ, List, codes, true, None, Some, MatchOption, is_some}
 use Rattle.serde_json.specs.Data.{Data, Members, object, string}
 use Rattle.serde_json.specs.Find.{as_object, get}
 use Rattle.fp_base.specs.Sorted.{IsSorted}
@@ -12,7 +12,7 @@ use Rattle.fp_definition.specs.declared.choice.Choice.{Choice}
 -- stand in their text
 pub record IsChoice (d : Data) (text : List ℕ) (c : Choice) : Type 0 where
   pub disabled : c.is_disabled ≡ is_disabled (get (codes "state") d)
-  pub default : get (codes "defaultVariant") d ≡ Some (string (string_bytes c.default))
+  pub default : get (codes "defaultVariant") d ≡ Some (string c.default.bytes)
   pub members : Members
   pub variants : get (codes "variants") d ≡ Some (object members)
   pub sorted : IsSorted members

@@ -1,6 +1,6 @@
 -- What a reply has of a definition, as it stands in the definition's text.
 use Rattle.std.specs.Prelude.{◌≡◌, ◌≤◌, ℕ, List, [], ◌∷◌, Option, Some, MatchOption, codes, length}
-use Rattle.std.specs.Prelude.{slice_range, string_bytes, ⊤}
+use Rattle.std.specs.Prelude.{slice_range, ⊤}
 use Rattle.serde_json.specs.Data.{Data, string, object, Members, no_members, member}
 use Rattle.serde_json.specs.Find.{get_member}
 use Rattle.serde_json.specs.Written.{compact_text}
@@ -27,7 +27,7 @@ texts (member k d ms) = member k (string (compact_text d)) (texts ms)
 abbrev pub spelled : List ℕ → List Variant → Members → Members
 spelled text [] rest = rest
 spelled text (v ∷ vs) rest =
-    member (string_bytes v.name) (string (at text v.value)) (spelled text vs rest)
+    member v.name.bytes (string (at text v.value)) (spelled text vs rest)
 
 abbrev pub AreWithin : List ℕ → List Variant → Type 0
 AreWithin text [] = ⊤

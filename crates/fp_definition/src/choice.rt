@@ -1,6 +1,6 @@
 //! What a definition chooses from, kept as an evaluation asks for it.
 
-ghost use Rattle.std.specs.Prelude.{◌≡◌, true, Some, IfOk, codes, option_map, string_bytes};
+ghost use Rattle.std.specs.Prelude.{◌≡◌, true, Some, IfOk, codes, option_map};
 ghost use Rattle.serde_json.specs.Data.{Members, no_members, object, string};
 ghost use Rattle.serde_json.specs.Find.{get};
 ghost use Rattle.fp_base.specs.Ordered.{IsOrdered};
@@ -12,6 +12,7 @@ ghost use Rattle.fp_definition.specs.Valid.{names_variant};
 
 use crate::spelling::{Place, Variant};
 use fp_base::Tree;
+use fp_operators::Text;
 use std::alloc::{AllocError, Global};
 
 // Whether a definition is disabled, the name of its default variant, and where its variants' values
@@ -19,7 +20,7 @@ use std::alloc::{AllocError, Global};
 #[derive(Drop)]
 pub(crate) struct Choice {
     pub(crate) is_disabled: bool,
-    pub(crate) default: String,
+    pub(crate) default: Text,
     pub(crate) variants: Vec<Variant>,
     pub(crate) metadata: Option<Place>,
 }
@@ -59,14 +60,14 @@ fn says_disabled(tree: &Tree<'_>) -> bool
     }
 }
 
-fn default_of(alloc: Global, tree: &Tree<'_>) -> Result<String, AllocError>
+fn default_of(alloc: Global, tree: &Tree<'_>) -> Result<Text, AllocError>
     requires { names_variant (get (codes "defaultVariant") (tree_view tree.now))
         (get (codes "variants") (tree_view tree.now)) ≡ true }
-    ensures { IfOk result (λ s. get (codes "defaultVariant") (tree_view tree.now)
-        ≡ Some (string (string_bytes s))) }
+    ensures { IfOk result (λ t. get (codes "defaultVariant") (tree_view tree.now)
+        ≡ Some (string t.bytes)) }
 {
     let Some(Tree::String(name)) = tree.get("defaultVariant") else {
         unreachable!()
     };
-    String::from_str(alloc, name)
+    Text::from_str(alloc, name)
 }

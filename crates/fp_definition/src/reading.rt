@@ -18,10 +18,14 @@ use crate::definition::DEEPEST_DEFINITION;
 use crate::spelling::{Place, Variant, is_first};
 use fp_base::Tree;
 use fp_canonical::{Cursor, Unread, read_value};
+use fp_operators::Text;
 use std::alloc::Global;
 
 // So many members a definition has mostly, at most.
 const MEMBERS: usize = 5;
+
+// So many variants mostly.
+const VARIANTS: usize = 2;
 
 // The tree of a text, and where the values of its variants, in their order, and its metadata stand
 // in the text.
@@ -181,13 +185,13 @@ fn read_noting<'a>(
         → MatchResult result (λ _. cursor.new ≡ left) (λ e. e ≡ Memory) }
 {
     let mut found: Vec<(&'a str, Tree<'a>)> = Vec::new(alloc);
-    let mut variants = Vec::new(alloc);
+    let mut variants = Vec::with_capacity(alloc, VARIANTS)?;
     'members: while let Some(name) = cursor.next_name(found.as_slice())? {
         let start = len - cursor.left();
         let value = read_value(alloc, cursor, DEEPEST_DEFINITION - 2)?;
         let end = len - cursor.left();
         found.push((name, value))?;
-        let name = String::from_str(alloc, name)?;
+        let name = Text::from_str(alloc, name)?;
         let value = Place { start, end };
         variants.push(Variant { name, value })?;
     }

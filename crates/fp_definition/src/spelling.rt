@@ -15,6 +15,7 @@ ghost use Rattle.fp_base.specs.Whole.{is_whole, members_whole};
 ghost use Rattle.fp_definition.specs.Spelled.{AreAt, AreIn, AreNoted};
 
 use fp_base::{Tree, put_name};
+use fp_operators::Text;
 use std::alloc::{AllocError, Global};
 
 // Where some bytes of a text stand.
@@ -27,7 +28,7 @@ pub(crate) struct Place {
 // A variant's name, and where its value stands.
 #[derive(Drop)]
 pub(crate) struct Variant {
-    pub(crate) name: String,
+    pub(crate) name: Text,
     pub(crate) value: Place,
 }
 
@@ -186,7 +187,7 @@ fn put_noting(
         let start = text.len();
         member.1.put_text(text)?;
         let end = text.len();
-        let name = String::from_str(alloc, member.0)?;
+        let name = Text::from_str(alloc, member.0)?;
         let value = Place { start, end };
         variants.push(Variant { name, value })?;
         later = true;

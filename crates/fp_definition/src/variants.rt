@@ -1,6 +1,6 @@
 //! The variants of a definition, looked up by their names.
 
-ghost use Rattle.std.specs.Prelude.{◌≡◌, IfSome, option_map, string_bytes};
+ghost use Rattle.std.specs.Prelude.{◌≡◌, IfSome, option_map};
 ghost use Rattle.std.specs.Str.{bytes_eq};
 ghost use Rattle.serde_json.specs.Data.{no_members, string};
 ghost use Rattle.serde_json.specs.Find.{get_member};
@@ -54,7 +54,7 @@ fn narrowed<'d>(text: &[u8], variants: &'d [Variant], name: &str) -> &'d [Varian
 // The first variant of that name.
 fn variant_among<'d>(text: &[u8], variants: &'d [Variant], name: &str) -> Option<&'d Variant>
     requires { AreWithin text.now variants.now }
-    ensures named { IfSome result (λ v. string_bytes v.now.name ≡ name.now) }
+    ensures named { IfSome result (λ v. v.now.name.bytes ≡ name.now) }
     ensures within { IfSome result (λ v. IsWithin text.now v.now.value) }
     ensures value { option_map (λ v. string (at text.now v.now.value)) result
         ≡ get_member name.now (spelled text.now variants.now no_members) }

@@ -14,7 +14,7 @@ use crate::few::{of_three, of_two};
 use crate::kept::Kept;
 use crate::machine::Found;
 use crate::operator::Operator;
-use fp_operators::{Datum, append_text};
+use fp_operators::{Datum, Text, append_text};
 use std::alloc::{AllocError, Global};
 use std::mem::take;
 
@@ -90,7 +90,7 @@ fn joined(alloc: Global, parts: &[Found<'_>]) -> Result<Datum, AllocError>
             return Ok(Datum::Null);
         }
     }
-    Ok(Datum::Text(text))
+    Ok(Datum::Text(Text::from(text)))
 }
 
 /// A list of the last kept results, so many, is at hand next: each is copied where it is only lent.

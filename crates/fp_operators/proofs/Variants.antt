@@ -1,7 +1,8 @@
 -- What each variant of a `Datum` stands for.
-use Rattle.std.proofs.Common.{◌≡◌, ℤ, Bool, String, Global, Vec, rules, string_bytes}
+use Rattle.std.proofs.Common.{◌≡◌, ℤ, Bool, String, Global, Vec, rules}
 use Rattle.std.specs.BTreeMap.{BTreeMap}
 use Rattle.fp_operators.specs.Data.{null, boolean, whole, text, list, object}
+use Rattle.fp_operators.specs.KeptText.{TextState}
 use Rattle.fp_operators.specs.View.{view, items_view, members_view}
 use Rattle.fp_operators.specs.declared.datum.Datum.{Datum, the_lemmas}
 use Rattle.fp_operators.specs.declared.datum.Datum.TheVariants.{Null, Bool as Truth, Whole, Text, List, Object}
@@ -15,7 +16,7 @@ view-Bool b = search (rules, the_lemmas)
 pub view-Whole : (z : ℤ) → view (Whole z) ≡ whole z
 view-Whole z = search (rules, the_lemmas)
 
-pub view-Text : (s : String Global) → view (Text s) ≡ text (string_bytes s)
+pub view-Text : (s : TextState) → view (Text s) ≡ text s.bytes
 view-Text s = search (rules, the_lemmas)
 
 pub view-List : (v : Vec Datum Global) → view (List v) ≡ list (items_view v.items)

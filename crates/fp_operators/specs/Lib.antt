@@ -1,4 +1,5 @@
 pub mod Data
+pub mod KeptText
 pub mod View
 pub mod FromJson
 pub mod Memory

@@ -18,7 +18,7 @@ abbrev pub view_step : Datum-F Data → Data
 view_step Datum-F.Null = null
 view_step (Datum-F.Bool b) = boolean b
 view_step (Datum-F.Whole z) = whole z
-view_step (Datum-F.Text s) = text (string_bytes s)
+view_step (Datum-F.Text s) = text s.bytes
 view_step (Datum-F.List v) = list (items_of v.items)
 view_step (Datum-F.Object m) = object (members_of m.entries)
 

@@ -9,6 +9,7 @@ ghost use Rattle.fp_operators.specs.View.{view, items_view, members_view};
 ghost use Rattle.fp_operators.specs.FromJson.{data_of, items_from, members_from};
 ghost use Rattle.fp_operators.specs.Memory.{takes_memory};
 
+use crate::kept_text::Text;
 use fp_base::Tree;
 use serde_json::Value;
 use std::alloc::{AllocError, Global};
@@ -21,12 +22,12 @@ const LEAST_AT_ONCE: usize = 8;
 ///
 /// Data nest no deeper than the JSON that they were read from, which the reader limits to 127
 /// levels, and a rule's result than the rule and its data: so the recursion over them is bounded.
-#[derive(Debug, Drop, PartialEq, Eq)]
+#[derive(Drop)]
 pub enum Datum {
     Null,
     Bool(bool),
     Whole(i64),
-    Text(String),
+    Text(Text),
     List(Vec<Datum>),
     Object(BTreeMap<String, Datum>),
 }
@@ -55,7 +56,7 @@ impl Datum {
                 Some(z) => Ok(Datum::Whole(z)),
                 None => Ok(Datum::Null),
             },
-            Tree::String(s) => Ok(Datum::Text(String::from_str(alloc, s)?)),
+            Tree::String(s) => Ok(Datum::Text(Text::from_str(alloc, s)?)),
             Tree::Array(items) => Ok(Datum::List(from_items(alloc, items)?)),
             Tree::Object(members) => {
                 if members.len() < LEAST_AT_ONCE {
@@ -77,7 +78,7 @@ impl Datum {
             Datum::Null => Ok(Datum::Null),
             Datum::Bool(b) => Ok(Datum::Bool(*b)),
             Datum::Whole(z) => Ok(Datum::Whole(*z)),
-            Datum::Text(s) => Ok(Datum::Text(s.clone()?)),
+            Datum::Text(s) => Ok(Datum::Text(s.try_copy()?)),
             Datum::List(items) => Ok(Datum::List(copy_items(alloc, items)?)),
             Datum::Object(members) => Ok(Datum::Object(copy_members(alloc, members)?)),
         }

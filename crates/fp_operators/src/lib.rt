@@ -4,6 +4,7 @@
 mod arithmetic;
 mod datum;
 mod equality;
+mod kept_text;
 pub mod laws;
 mod murmur;
 mod numeral;
@@ -17,6 +18,7 @@ mod version;
 pub use arithmetic::remainder;
 pub use datum::Datum;
 pub use equality::{loosely_equal, loosely_unequal, strictly_equal, strictly_unequal};
+pub use kept_text::Text;
 pub use murmur::hash_of;
 pub use order::{
     between_exclusive, between_inclusive, greater, greater_or_equal, less, less_or_equal,

@@ -9,6 +9,7 @@ ghost use Rattle.fp_operators.specs.Text.{scalar_text, text_of_scalars, concaten
 
 use crate::datum::Datum;
 use crate::equality::strictly_equal;
+use crate::kept_text::Text;
 use itoa::Buffer;
 use std::alloc::{AllocError, Global};
 
@@ -77,7 +78,7 @@ pub fn concatenate(alloc: Global, parts: &[Datum]) -> Result<Datum, AllocError>
     ensures { IfOk result (λ d. view d ≡ concatenation (map view parts.now)) }
 {
     match joined_text(alloc, parts)? {
-        Some(text) => Ok(Datum::Text(text)),
+        Some(text) => Ok(Datum::Text(Text::from(text))),
         None => Ok(Datum::Null),
     }
 }

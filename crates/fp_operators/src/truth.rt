@@ -15,7 +15,7 @@ pub fn is_truthy(datum: &Datum) -> bool
         Datum::Null => false,
         Datum::Bool(b) => *b,
         Datum::Whole(z) => *z != 0,
-        Datum::Text(s) => !s.is_empty(),
+        Datum::Text(s) => !s.as_str().is_empty(),
         Datum::List(items) => !items.is_empty(),
         Datum::Object(_) => true,
     }

@@ -1,6 +1,6 @@
 -- The pairs of `fractional`, as they are read from JSON and as they are kept.
-use Rattle.std.proofs.Common.{◌≡◌, ◌+◌, ◌≤◌, ℕ, ℤ, pos, negsuc, List, [], ◌∷◌, ◌++◌, length, drop, String, Global}
-use Rattle.std.proofs.Common.{string_bytes, Bool, true, false, Option, None, Some, option_map, option_and_then}
+use Rattle.std.proofs.Common.{◌≡◌, ◌+◌, ◌≤◌, ℕ, ℤ, pos, negsuc, List, [], ◌∷◌, ◌++◌, length, drop}
+use Rattle.std.proofs.Common.{Bool, true, false, Option, None, Some, option_map, option_and_then}
 use Rattle.std.proofs.Common.{unwrap_or, refl, sym, ap, ◌∙◌, subst, arith, if◌then◌else◌}
 use Rattle.std.specs.Prelude.{nat_le}
 use Rattle.std.proofs.lemmas.List.{append_assoc}
@@ -10,6 +10,7 @@ use Rattle.fp_base.specs.TreeView.{tree_view, tree_items}
 use Rattle.fp_base.specs.declared.tree.Tree.{Tree}
 use Rattle.fp_operators.specs.Data.{Data, whole, text}
 use Rattle.fp_operators.specs.FromJson.{whole_or_null}
+use Rattle.fp_operators.specs.KeptText.{TextState}
 use Rattle.fp_operators.specs.declared.datum.Datum.TheVariants as Datum
 use Rattle.fp_targeting.specs.Compile.{first_of, first_unknown, items_unknown, one_more, arguments_of, rule_of, rules_from}
 use Rattle.fp_machine.specs.Operators.{operator_of, allows}
@@ -325,6 +326,6 @@ read-turn done xs i x p here h =
     ∙ ap (λ ys. behind done (rules_from (tree_items ys))) (sym here)
 
 -- what is kept of a pair is the rule that it writes
-pub share_rule-Text : (s : String Global) (name : List ℕ) (weight : Option ℕ) → string_bytes s ≡ name →
+pub share_rule-Text : (s : TextState) (name : List ℕ) (weight : Option ℕ) → s.bytes ≡ name →
     share_rule (record { name = Datum.Text s; weight = weight }) ≡ pair_rule (text name) weight
 share_rule-Text s name weight e = ap (λ d. pair_rule d weight) (view-Text s ∙ ap text e)

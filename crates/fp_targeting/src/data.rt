@@ -14,7 +14,7 @@ ghost use Rattle.fp_targeting.specs.declared.turn.TheConstants.{ROOM_FOR_A_KEY};
 
 use crate::turn::{ROOM_FOR_A_KEY, turn_to};
 use fp_base::Tree;
-use fp_operators::Datum;
+use fp_operators::{Datum, Text};
 use serde_json::Value;
 use std::alloc::{AllocError, Global};
 use std::collections::BTreeMap;
@@ -122,9 +122,7 @@ fn key_datum(alloc: Global, flag_key: &str) -> Result<Datum, AllocError>
     ensures text { IfOk result (λ d. view d ≡ text flag_key.now) }
     ensures room { IfOk result KeyHasRoom }
 {
-    let mut key = String::with_capacity(alloc, ROOM_FOR_A_KEY)?;
-    key.push_str(flag_key)?;
-    Ok(Datum::Text(key))
+    Ok(Datum::Text(Text::with_room(alloc, flag_key, ROOM_FOR_A_KEY)?))
 }
 
 /// An object with a member set. Data of other kinds have no members.

@@ -85,7 +85,7 @@ pub fn writes(json: &Json<'_>, datum: &Datum) -> bool
     ensures { result ≡ true → view datum.now ≡ data_of (tree_view json.now) }
 {
     match (datum, json) {
-        (Datum::Text(a), Json::String(b)) => a.len() == b.len() && a.as_str() == *b,
+        (Datum::Text(a), Json::String(b)) => a.as_str().len() == b.len() && a.as_str() == *b,
         (Datum::List(made), Json::Array(items)) => all_write(items.as_slice(), made.as_slice()),
         _ => is_scalar(json, datum),
     }

@@ -12,7 +12,7 @@ ghost use Rattle.fp_targeting.specs.Pairs.{pair_written, pair_view};
 
 use fp_base::Tree as Json;
 use fp_machine::{Share, Table};
-use fp_operators::Datum;
+use fp_operators::{Datum, Text};
 use std::alloc::{AllocError, Global};
 
 /// The greatest weight of a pair, and the greatest total of a rule's pairs.
@@ -46,7 +46,7 @@ pub fn read_table(alloc: Global, pairs: &[Json<'_>]) -> Result<Option<Table>, Al
             return Ok(None);
         };
         total = more;
-        let name = Datum::Text(String::from_str(alloc, pair.name)?);
+        let name = Datum::Text(Text::from_str(alloc, pair.name)?);
         shares.push(Share {
             name,
             weight: pair.weight,

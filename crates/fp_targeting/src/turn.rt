@@ -1,7 +1,6 @@
 //! Data turn to another flag.
 
-ghost use Rattle.std.specs.Prelude.{◌≡◌, ◌≤◌, ℕ, List, length, codes, string_bytes};
-ghost use Rattle.std.specs.String.{string_capacity};
+ghost use Rattle.std.specs.Prelude.{◌≡◌, ◌≤◌, ℕ, List, length, codes};
 ghost use Rattle.fp_operators.specs.Data.{Members, object, put, text};
 ghost use Rattle.fp_operators.specs.View.{view, members_view};
 ghost use Rattle.fp_targeting.specs.Room.{FlagHasRoom, HasRoom, IsUnder, KeyHasRoom};
@@ -75,16 +74,6 @@ fn set_text(key: &mut Datum, flag_key: &str)
     ensures room { KeyHasRoom key.new }
 {
     if let Datum::Text(written) = key {
-        rewrite(written, flag_key);
+        written.rewrite(flag_key);
     }
-}
-
-// Writes a text over another one, in whose room it fits.
-fn rewrite(written: &mut String, text: &str)
-    requires { length text.now ≤ string_capacity written.old }
-    ensures text { string_bytes written.new ≡ text.now }
-    ensures room { string_capacity written.old ≤ string_capacity written.new }
-{
-    written.clear();
-    written.push_str(text).unwrap();
 }

@@ -1,4 +1,4 @@
-use Rattle.std.proofs.Common.{Ok, Err, Some, None, drop, ◌≡◌, ◌-◌, ◌∷◌, ◌++◌, [], string_bytes}
+use Rattle.std.proofs.Common.{Ok, Err, Some, None, drop, ◌≡◌, ◌-◌, ◌∷◌, ◌++◌, []}
 use Rattle.std.proofs.Common.{refl, sym, ap, subst, ◌∙◌, arith, rules, false}
 use Rattle.json.specs.Print.{quoted}
 use Rattle.serde_json.specs.Data.{member, no_members}
@@ -22,7 +22,7 @@ use Rattle.fp_definition.proofs.reading.read_noting.Goals as goal
 pub members-init : goal.members-init
 members-init c =
     let none = c.new-found.ensures.items in
-    let no_variants = c.new-variants.ensures.items in
+    let no_variants = c.in_ok-variants.ensures.items in
     let text = c.args.cursor.now in (
       subst (λ es. AreReadSoFar (DEEPEST_DEFINITION - 2) es text text) (sym none) (λ more left r. r),
       subst (λ es. IsSorted (tree_members es)) (sym none) tt,
@@ -79,7 +79,7 @@ members-preserved c =
           let there = at_new (h.0 ++ name) new bytes v.value refl
           (passed_len all (h.0 ++ name) one c.args.len c.left.result len behind_name c.left.ensures)
           (passed_len all new two c.args.len c.left-in-Some.result len behind_value c.left-in-Some.ensures) in
-          let named : string_bytes v.name ≡ m.0.now = search rules in (
+          let named : v.name.bytes ≡ m.0.now = search rules in (
             new,
             behind_value,
             λ more. ap (λ vs. spelled new vs (texts more)) more_variants

@@ -1,4 +1,4 @@
-use Rattle.std.proofs.Common.{◌≡◌, ◌+◌, ◌∷◌, ◌++◌, [], drop, length, string_bytes, sym, ap, subst, ◌∙◌, true, arith, rules}
+use Rattle.std.proofs.Common.{◌≡◌, ◌+◌, ◌∷◌, ◌++◌, [], drop, length, sym, ap, subst, ◌∙◌, true, arith, rules}
 use Rattle.std.proofs.lemmas.Bool.{and_parts}
 use Rattle.std.proofs.lemmas.List.{drop_all}
 use Rattle.json.specs.Print.{quoted}
@@ -30,7 +30,7 @@ loop-member-preserved c =
     let start : v.value.start ≡ length c.put_name.new.out.items = omega (arith, c.len-start.ensures, c.put_name.new.out.ok) in
     let end : v.value.end ≡ length new = omega (arith, c.len-end.ensures, c.put_text.new.out.ok) in
     let there = at_new c.put_name.new.out.items new bytes v.value c.in_ok-put_text.ensures.text start end in
-    let named : string_bytes v.name ≡ m.0.now = search rules in
+    let named : v.name.bytes ≡ m.0.now = search rules in
     let pushed = c.in_ok-push-2.ensures.items in (
       (and_parts (is_whole (tree_view m.1)) (members_whole rest) (ap members_whole (sym here) ∙ l.invariant.0)).1,
       behind_name l.text.items _ new (comma_if l.later) (quoted m.0.now) bytes (members_text true rest)

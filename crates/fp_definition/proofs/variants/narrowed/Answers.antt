@@ -1,4 +1,4 @@
-use Rattle.std.proofs.Common.{◌≡◌, ◌<◌, List, ◌∷◌, ◌++◌, drop, length, Greater, nat_cmp, string_bytes, sym, ap, subst, ◌∙◌, arith}
+use Rattle.std.proofs.Common.{◌≡◌, ◌<◌, List, ◌∷◌, ◌++◌, drop, length, Greater, nat_cmp, sym, ap, subst, ◌∙◌, arith}
 use Rattle.std.specs.Cmp.Lexicographic.{slice_cmp}
 use Rattle.serde_json.specs.Data.{no_members}
 use Rattle.serde_json.specs.Find.{get_member}
@@ -22,9 +22,9 @@ loop-left-preserved-then-is_gt c =
     let all : c.loop-left.left.now ≡ front ++ m ∷ drop 1 behind = c.split_at.ensures.by_index.0 ∙ ap (λ ys. front ++ ys) here in
     let sorted : IsSorted (spelled text (front ++ m ∷ drop 1 behind) no_members) =
     subst (λ ys. IsSorted (spelled text ys no_members)) all c.loop-left.invariant.0 in
-    let order : slice_cmp nat_cmp (string_bytes m.name) name ≡ Greater =
-    ap (λ (x : Variant). slice_cmp nat_cmp (string_bytes x.name) name) c.index-behind-0.is ∙
-    ap (λ n. slice_cmp nat_cmp n name) (sym c.as_str.ensures.value)
+    let order : slice_cmp nat_cmp m.name.bytes name ≡ Greater =
+    ap (λ (x : Variant). slice_cmp nat_cmp x.name.bytes name) c.index-behind-0.is ∙
+    ap (λ n. slice_cmp nat_cmp n name) (sym c.as_str.ensures)
     ∙ sym c.cmp.ensures ∙ greater c.cmp.result (sym c.is_gt.ensures ∙ c.if-is_gt.true) in (
       sorted-front text front (m ∷ drop 1 behind) sorted,
       get-front text name front m (drop 1 behind) sorted order ∙
@@ -44,10 +44,10 @@ loop-left-preserved c =
     let all : c.loop-left.left.now ≡ front ++ m ∷ drop 1 behind = c.split_at.ensures.by_index.0 ∙ ap (λ ys. front ++ ys) here in
     let sorted : IsSorted (spelled text (front ++ m ∷ drop 1 behind) no_members) =
     subst (λ ys. IsSorted (spelled text ys no_members)) all c.loop-left.invariant.0 in
-    let order : slice_cmp nat_cmp (string_bytes m.name) name ≡ Greater → ⊥ =
+    let order : slice_cmp nat_cmp m.name.bytes name ≡ Greater → ⊥ =
     λ h. not_greater c.cmp.result (sym c.is_gt.ensures ∙ c.if-is_gt.false)
-    (c.cmp.ensures ∙ ap (λ n. slice_cmp nat_cmp n name) c.as_str.ensures.value
-    ∙ ap (λ (x : Variant). slice_cmp nat_cmp (string_bytes x.name) name) (sym c.index-behind-0.is) ∙ h) in (
+    (c.cmp.ensures ∙ ap (λ n. slice_cmp nat_cmp n name) c.as_str.ensures
+    ∙ ap (λ (x : Variant). slice_cmp nat_cmp x.name.bytes name) (sym c.index-behind-0.is) ∙ h) in (
       subst (λ ys. IsSorted (spelled text ys no_members)) (sym here) (sorted-behind text front (m ∷ drop 1 behind) sorted),
       ap (λ ys. get_member name (spelled text ys no_members)) here ∙
           get-behind text name front m (drop 1 behind) sorted order ∙

@@ -1,4 +1,4 @@
-use Rattle.std.proofs.Common.{◌≡◌, ◌+◌, ◌∷◌, drop, string_bytes, sym, ap, subst, ◌∙◌, arith}
+use Rattle.std.proofs.Common.{◌≡◌, ◌+◌, ◌∷◌, drop, sym, ap, subst, ◌∙◌, arith}
 use Rattle.std.specs.Str.{bytes_eq}
 use Rattle.serde_json.specs.Data.{no_members, string}
 use Rattle.serde_json.specs.Find.{get_member}
@@ -16,8 +16,8 @@ returns-then-is_same-clause-value c =
     let name = c.args.name.now in
     let text = c.args.text.now in
     let here : drop i xs ≡ m ∷ drop (i + 1) xs = drop-here xs i m (omega arith) c.variant-item.is in
-    sym (found-here name (string_bytes m.name) (string (at text m.value)) (spelled text (drop (i + 1) xs) no_members)
-    (ap (λ n. bytes_eq n name) (sym c.as_str.ensures.value) ∙ sym c.is_same.ensures ∙ c.if-is_same.true))
+    sym (found-here name m.name.bytes (string (at text m.value)) (spelled text (drop (i + 1) xs) no_members)
+    (ap (λ n. bytes_eq n name) (sym c.as_str.ensures) ∙ sym c.is_same.ensures ∙ c.if-is_same.true))
     ∙ ap (λ ys. get_member name (spelled text ys no_members)) (sym here)
     ∙ c.loop-variant.invariant.0
 
@@ -36,9 +36,9 @@ loop-variant-preserved c =
     let name = c.args.name.now in
     let text = c.args.text.now in
     let here : drop i xs ≡ m ∷ drop (i + 1) xs = drop-here xs i m (omega arith) c.variant-item.is in (
-      sym (found-later name (string_bytes m.name) (string (at text m.value))
+      sym (found-later name m.name.bytes (string (at text m.value))
           (spelled text (drop (i + 1) xs) no_members)
-          (ap (λ n. bytes_eq n name) (sym c.as_str.ensures.value) ∙ sym c.is_same.ensures ∙ c.if-is_same.false))
+          (ap (λ n. bytes_eq n name) (sym c.as_str.ensures) ∙ sym c.is_same.ensures ∙ c.if-is_same.false))
           ∙ ap (λ ys. get_member name (spelled text ys no_members)) (sym here)
           ∙ c.loop-variant.invariant.0,
       (subst (AreWithin text) here c.loop-variant.invariant.1).1,
