@@ -1,6 +1,7 @@
 //! Texts as JSON writes them: in quotes, with what it needs escaped.
 
-ghost use Rattle.std.specs.Prelude.{◌≡◌, ◌+◌, ◌≤◌, ◌<◌, ◌++◌, ◌∷◌, ◌/◌, ◌%◌, [], OnOk, length, take, drop, map};
+ghost use Rattle.std.specs.Prelude.{◌≡◌, ◌+◌, ◌≤◌, ◌<◌, ◌++◌, ◌∷◌, ◌/◌, ◌%◌, [], OnOk, true};
+ghost use Rattle.std.specs.Prelude.{length, take, drop, map};
 ghost use Rattle.std.specs.Char.{digit_char};
 ghost use Rattle.std.specs.List.{prefix_len};
 ghost use Rattle.std.specs.Simd.Lanes.{mask_l};
@@ -66,11 +67,17 @@ fn one_by_one(bytes: &[u8], from: usize) -> usize
     len
 }
 
-// Most are letters.
+/// Whether a string has the byte as it is: all but a quote, a backslash and the control bytes.
 #[inline(always)]
-fn is_unescaped(byte: u8) -> bool
-    ensures { result ≡ is_unescaped byte }
+#[tactic(auto, unfolding(json::specs::Print::escape_byte))]
+pub fn is_unescaped(byte: u8) -> bool
+    ensures value { result ≡ is_unescaped byte }
+    // `true`: JSON writes it so.
+    ensures plain { result ≡ true → escape_byte byte ≡ byte ∷ [] }
+    // It says so of each byte that JSON writes so.
+    ensures all { escape_byte byte ≡ byte ∷ [] → result ≡ true }
 {
+    // Most are letters.
     byte > b'\\' || (byte >= 0x20 && byte != b'"' && byte != b'\\')
 }
 

@@ -1,13 +1,13 @@
 //! Strings, as canonical text has them.
 
-ghost use Rattle.std.specs.Prelude.{◌≡◌, ◌<◌, ◌≤◌, ◌+◌, ◌∷◌, ◌++◌, [], ℕ, List, true, false, Some};
+ghost use Rattle.std.specs.Prelude.{◌≡◌, ◌<◌, ◌≤◌, ◌+◌, ◌∷◌, ◌++◌, [], ℕ, List, false, Some};
 ghost use Rattle.std.specs.Prelude.{IfSome, IsSome, MatchOption};
 ghost use Rattle.std.specs.Prelude.{drop, get_or, length, slice_range, take};
 ghost use Rattle.std.specs.Char.{digit_char};
 ghost use Rattle.json.specs.Print.{escape, escape_byte, escape_letter, quoted};
 
 use crate::cursor::Cursor;
-use fp_base::unescaped_len;
+use fp_base::{is_unescaped, unescaped_len};
 use std::mem;
 
 impl<'a> Cursor<'a> {
@@ -53,16 +53,6 @@ impl<'a> Cursor<'a> {
     }
 }
 
-// Whether a string has the byte as it is. Most are letters.
-#[inline(always)]
-#[tactic(auto, unfolding(json::specs::Print::escape_byte))]
-fn is_plain(byte: u8) -> bool
-    ensures plain { result ≡ true → escape_byte byte ≡ byte ∷ [] }
-    ensures all { escape_byte byte ≡ byte ∷ [] → result ≡ true }
-{
-    byte > b'\\' || (byte >= 0x20 && byte != b'"' && byte != b'\\')
-}
-
 // Puts what a string stands for into the room: how many bytes it is, and where the quote behind its
 // spelling stands.
 fn unescaped(bytes: &[u8], room: &mut [u8]) -> Option<(usize, usize)>
@@ -97,7 +87,7 @@ fn byte_at(bytes: &[u8], at: usize) -> Option<(u8, usize)>
         → IsSome result }
 {
     let byte = bytes[at];
-    if is_plain(byte) {
+    if is_unescaped(byte) {
         return Some((byte, at + 1));
     }
     if byte != b'\\' || bytes.len() - at < 2 {

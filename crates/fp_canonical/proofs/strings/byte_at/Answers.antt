@@ -18,7 +18,7 @@ returns-then-byte-ne92-clause-taken c = λ x left here. absurd (go x (stands c.a
     ]
 
     go : (x : ℕ) → Stands c.args.bytes.now c.args.at x → ⊥
-    go x (inl p) = true≢false (sym (c.is_plain.ensures.all p) ∙ c.if-is_plain.false)
+    go x (inl p) = true≢false (sym (c.is_unescaped.ensures.all p) ∙ c.if-is_unescaped.false)
     go x (inr (inl p)) = no_escape p.0 p.1
     go x (inr (inr p)) = no_escape (omega (arith, p.0)) p.1
 
@@ -26,7 +26,7 @@ pub returns-in_err-short-clause-taken : goal.returns-in_err-short-clause-taken
 returns-in_err-short-clause-taken c = λ x left here. absurd (go x (stands c.args.bytes.now c.args.at x left c.requires here))
   where
     go : (x : ℕ) → Stands c.args.bytes.now c.args.at x → ⊥
-    go x (inl p) = true≢false (sym (c.is_plain.ensures.all p) ∙ c.if-is_plain.false)
+    go x (inl p) = true≢false (sym (c.is_unescaped.ensures.all p) ∙ c.if-is_unescaped.false)
     go x (inr (inl p)) = let is = c.in_err-short.ensures.taken x p.3 in cc
     go x (inr (inr p)) = omega (arith, p.2, c.if-bytes-at-ne117.true)
 
@@ -34,7 +34,7 @@ pub returns-then-bytes-at-lt6-clause-taken : goal.returns-then-bytes-at-lt6-clau
 returns-then-bytes-at-lt6-clause-taken c = λ x left here. absurd (go x (stands c.args.bytes.now c.args.at x left c.requires here))
   where
     go : (x : ℕ) → Stands c.args.bytes.now c.args.at x → ⊥
-    go x (inl p) = true≢false (sym (c.is_plain.ensures.all p) ∙ c.if-is_plain.false)
+    go x (inl p) = true≢false (sym (c.is_unescaped.ensures.all p) ∙ c.if-is_unescaped.false)
     go x (inr (inl p)) = p.2 (omega (arith, c.if-bytes-at-ne117.false))
     go x (inr (inr p)) = elim c.then-bytes-at-lt6.branch [
       | then-bytes-at-lt6-via-then-bytes-at-lt6 w ↦ omega (arith, p.0, w.if-bytes-at-lt6.true)
@@ -46,6 +46,6 @@ pub returns-in_err-numbered-clause-taken : goal.returns-in_err-numbered-clause-t
 returns-in_err-numbered-clause-taken c = λ x left here. absurd (go x (stands c.args.bytes.now c.args.at x left c.requires here))
   where
     go : (x : ℕ) → Stands c.args.bytes.now c.args.at x → ⊥
-    go x (inl p) = true≢false (sym (c.is_plain.ensures.all p) ∙ c.if-is_plain.false)
+    go x (inl p) = true≢false (sym (c.is_unescaped.ensures.all p) ∙ c.if-is_unescaped.false)
     go x (inr (inl p)) = p.2 (omega (arith, c.if-bytes-at-ne117.false))
     go x (inr (inr p)) = let is = c.in_err-numbered.ensures.taken x p.5 in cc
