@@ -17,6 +17,9 @@ use std::simd::prelude::*;
 // So many bytes are looked at together.
 const TOGETHER: usize = 16;
 
+// Of fewer, so many.
+const HALF: usize = 8;
+
 /// How many bytes at the front a string has as they are.
 #[inline(always)]
 #[tactic(auto, using(crate::proofs::Unescaped::run_within, crate::proofs::Unescaped::run_written))]
@@ -41,7 +44,7 @@ fn run_len(bytes: &[u8]) -> usize
         }
         len += TOGETHER;
     }
-    one_by_one(bytes, len)
+    rest_len(bytes, len)
 }
 
 // A bit for each of the bytes, set where a string can't have it as it is.
@@ -55,6 +58,32 @@ fn escaped_among(bytes: u8x16) -> u64
 }
 
 // Where they end that begin at a place.
+#[inline(always)]
+fn rest_len(bytes: &[u8], from: usize) -> usize
+    requires { from ≤ length bytes.now }
+    ensures { result ≡ from + prefix_len is_unescaped (drop from bytes.now) }
+{
+    if bytes.len() - from < HALF {
+        return one_by_one(bytes, from);
+    }
+    let found = escaped_among_half(u8x8::from_slice(&bytes[from..]));
+    if found != 0 {
+        return from + found.trailing_zeros() as usize;
+    }
+    one_by_one(bytes, from + HALF)
+}
+
+// A bit for each of the bytes, as of `escaped_among`.
+#[inline(always)]
+fn escaped_among_half(bytes: u8x8) -> u64
+    ensures { result ≡ mask_l (map is_escaped bytes) }
+{
+    (bytes.simd_eq(u8x8::splat(b'"'))
+        | bytes.simd_eq(u8x8::splat(b'\\'))
+        | bytes.simd_lt(u8x8::splat(0x20))).to_bitmask()
+}
+
+// Where they end that begin at a place, looked at one by one.
 #[inline(always)]
 fn one_by_one(bytes: &[u8], from: usize) -> usize
     requires { from ≤ length bytes.now }
