@@ -103,7 +103,7 @@ impl Definition {
 
     /// The definition whose canonical text the bytes are, and `None` exactly where they are no such
     /// text. The bytes are read once.
-    #[tactic(auto, using(fp_base::proofs::Reading::json_of_refused))]
+    #[tactic(auto, using(fp_base::proofs::Reading::json_of_refused, crate::proofs::Refused::too_long))]
     pub fn from_text(alloc: Global, text: &[u8]) -> Result<Option<Definition>, AllocError>
         ensures { IfOk result (λ o. o ≡ definition_in text.now) }
     {

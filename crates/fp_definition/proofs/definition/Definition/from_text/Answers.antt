@@ -1,13 +1,10 @@
-use Rattle.std.proofs.Common.{◌≡◌, [], sym, subst, ◌∙◌, arith}
+use Rattle.std.proofs.Common.{◌≡◌, [], sym, subst, ◌∙◌}
 use Rattle.serde_json.specs.Data.{object}
 use Rattle.fp_canonical.specs.Reads.{Reads}
 use Rattle.fp_canonical.specs.declared.reading.Unread.TheVariants.{Memory, NotCanonical}
 use Rattle.fp_definition.specs.Numbers.{DEEPEST_DEFINITION}
-use Rattle.fp_definition.proofs.Refused.{not_read, too_long}
+use Rattle.fp_definition.proofs.Refused.{not_read}
 use Rattle.fp_definition.proofs.definition.Definition.from_text.Goals as goal
-
-pub returns-then-text-gt-LONGEST_DEFINITION : goal.returns-then-text-gt-LONGEST_DEFINITION
-returns-then-text-gt-LONGEST_DEFINITION c = sym (too_long c.args.text.now (omega (arith, c.if-text-gt-LONGEST_DEFINITION.true)))
 
 apart : NotCanonical ≡ Memory → ⊥
 apart h = cc
