@@ -1,14 +1,13 @@
 -- A text spells one string only.
 use Rattle.std.proofs.Common.{◌≡◌, ◌≢◌, ◌≤◌, ◌<◌, ◌+◌, ◌-◌, ◌/◌, ◌%◌, ℕ, List, [], ◌∷◌, ◌++◌}
-use Rattle.std.proofs.Common.{length, get_or, drop, slice_range, take, Option, Result, Some, None}
-use Rattle.std.proofs.Common.{Ok, Err, inl, inr, ◌⊎◌, refl, sym, ap, subst, ◌∙◌, arith, true}
+use Rattle.std.proofs.Common.{length, get_or, drop, slice_range, take, Option, Some, None}
+use Rattle.std.proofs.Common.{inl, inr, ◌⊎◌, refl, sym, ap, subst, ◌∙◌, arith, true}
 use Rattle.std.proofs.Common.{append_assoc, length-append}
 use Rattle.std.proofs.lemmas.List.{append_cancel_left, drop-drop, drop_more, get_or-drop}
 use Rattle.std.proofs.lemmas.List.{length-drop, take-append-drop}
 use Rattle.std.proofs.lemmas.Bool.{cases_lt, le-ltb, lt-ltb}
 use Rattle.std.specs.Char.{digit_char}
-use Rattle.std.specs.Prelude.{MatchOption, MatchResult, IfSome, IsSome}
-use Rattle.std.specs.Result.{result_ok}
+use Rattle.std.specs.Prelude.{MatchOption, IfSome, IsSome}
 use Rattle.std.specs.Str.{IsUtf8}
 use Rattle.json.specs.Print.{escape, escape_byte, escape_letter, quoted}
 use Rattle.json.specs.Text.{content, plain}
@@ -168,18 +167,7 @@ stands bytes at x left within here = go (form x)
 
 -- ---- on and on
 
-here_is : (bytes : List ℕ) (at b : ℕ) (bs : List ℕ) → drop at bytes ≡ b ∷ bs → get_or bytes at 0 ≡ b
-here_is bytes at b bs is =
-    let on : at + 0 ≡ at = omega arith in
-    ap (λ i. get_or bytes i 0) (sym on) ∙ sym (get_or-drop at bytes 0 0) ∙ ap (λ r. get_or r 0 0) is
-
--- before the quote some byte is spelled
-pub spelled_next : (bytes : List ℕ) (at : ℕ) (t left : List ℕ) → get_or bytes at 0 ≢ 34 → drop at bytes ≡ escape t ++ 34 ∷ left →
-    (x : ℕ) × (u : List ℕ) × (drop at bytes ≡ escape_byte x ++ (escape u ++ 34 ∷ left))
-spelled_next bytes at [] left no_quote here = absurd (no_quote (here_is bytes at 34 left here))
-spelled_next bytes at (x ∷ u) left no_quote here = (x, u, here ∙ append_assoc (escape_byte x) (escape u) (34 ∷ left))
-
--- behind it the rest of the string is
+-- behind a byte that is spelled the rest of the string is
 pub spelled_on : (bytes : List ℕ) (at next x y : ℕ) (rest : List ℕ) → at ≤ next → drop at bytes ≡ escape_byte x ++ rest →
     slice_range bytes at next ≡ escape_byte y → drop next bytes ≡ rest
 spelled_on bytes at next x y rest on here is =
@@ -211,10 +199,9 @@ front_text text end s utf8 within quote is =
 
 -- ---- answers that are there
 
-pub is_ok_some : {A E U : Type 0} (r : Result A E) (P : A → Type 0) (Q : E → Type 0) → MatchResult r P (λ e. ¬ U × Q e) → U →
-    IsSome (result_ok r)
-is_ok_some (Ok a) P Q h u = refl
-is_ok_some (Err e) P Q h u = absurd (h.0 u)
+pub is_some_of : {A U : Type 0} (o : Option A) (P : A → Type 0) → MatchOption o (¬ U) P → U → IsSome o
+is_some_of (Some a) P h u = refl
+is_some_of None P h u = absurd (h u)
 
 pub some_is : {A : Type 0} (o : Option A) (P Q : A → Type 0) → IsSome o → IfSome o P → ((a : A) → P a → Q a) → MatchOption o ⊥ Q
 some_is None P Q some h f = absurd (cc)

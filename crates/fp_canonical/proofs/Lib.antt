@@ -6,3 +6,4 @@ mod Exact
 pub mod Leads
 pub mod Next
 pub mod Read
+mod Runs

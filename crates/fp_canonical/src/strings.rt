@@ -1,13 +1,15 @@
 //! Strings, as canonical text has them.
 
-ghost use Rattle.std.specs.Prelude.{◌≡◌, ◌<◌, ◌≤◌, ◌+◌, ◌∷◌, ◌++◌, [], ℕ, List, false, Some};
+ghost use Rattle.std.specs.Prelude.{◌≡◌, ◌<◌, ◌≤◌, ◌+◌, ◌-◌, ◌∷◌, ◌++◌, [], ℕ, List, false, Some};
 ghost use Rattle.std.specs.Prelude.{IfSome, IsSome, MatchOption};
 ghost use Rattle.std.specs.Prelude.{drop, get_or, length, slice_range, take};
 ghost use Rattle.std.specs.Char.{digit_char};
+ghost use Rattle.std.specs.List.{prefix_len};
 ghost use Rattle.json.specs.Print.{escape, escape_byte, escape_letter, quoted};
+ghost use Rattle.fp_base.specs.Unescaped.{is_unescaped};
 
 use crate::cursor::Cursor;
-use fp_base::{is_unescaped, unescaped_len};
+use fp_base::{unescaped_len, utf8_text};
 use std::mem;
 
 impl<'a> Cursor<'a> {
@@ -49,7 +51,7 @@ impl<'a> Cursor<'a> {
         self.rest = &text[at + 1..];
         let (front, behind) = room.split_at_mut(len);
         self.room = behind;
-        std::str::from_utf8(front).ok()
+        utf8_text(front)
     }
 }
 
@@ -66,6 +68,12 @@ fn unescaped(bytes: &[u8], room: &mut [u8]) -> Option<(usize, usize)>
     let mut at = 0;
     let mut len = 0;
     while at < bytes.len() {
+        let run = put_run(bytes, at, room, len);
+        at += run;
+        len += run;
+        if at == bytes.len() {
+            return None;
+        }
         if bytes[at] == b'"' {
             return Some((len, at));
         }
@@ -77,20 +85,34 @@ fn unescaped(bytes: &[u8], room: &mut [u8]) -> Option<(usize, usize)>
     None
 }
 
-// The byte whose spelling stands at a place, and the place behind that.
+// Puts the bytes that a string has as they are from a place on at a place of the room: how many
+// they are.
+#[inline(always)]
+fn put_run(bytes: &[u8], at: usize, room: &mut [u8], len: usize) -> usize
+    requires within { at ≤ length bytes.now }
+    requires fits { len + (length bytes.now - at) ≤ length room.old }
+    ensures run { result ≡ prefix_len is_unescaped (drop at bytes.now) }
+    ensures within { at + result ≤ length bytes.now }
+    ensures written { escape (take result (drop at bytes.now)) ≡ take result (drop at bytes.now) }
+    ensures put { take (len + result) room.new
+        ≡ take len room.old ++ take result (drop at bytes.now) }
+    ensures same { length room.new ≡ length room.old }
+{
+    let run = unescaped_len(&bytes[at..]);
+    room[len..len + run].copy_from_slice(&bytes[at..at + run]);
+    run
+}
+
+// The byte whose spelling begins with a backslash at a place, and the place behind that.
 #[inline(always)]
 fn byte_at(bytes: &[u8], at: usize) -> Option<(u8, usize)>
     requires { at < length bytes.now }
     ensures within { IfSome result (λ p. (at < p.1) × (p.1 ≤ length bytes.now)) }
     ensures spelled { IfSome result (λ p. slice_range bytes.now at p.1 ≡ escape_byte p.0) }
     ensures taken { (x : ℕ) (left : List ℕ) → drop at bytes.now ≡ escape_byte x ++ left
-        → IsSome result }
+        → get_or bytes.now at 0 ≡ 92 → IsSome result }
 {
-    let byte = bytes[at];
-    if is_unescaped(byte) {
-        return Some((byte, at + 1));
-    }
-    if byte != b'\\' || bytes.len() - at < 2 {
+    if bytes[at] != b'\\' || bytes.len() - at < 2 {
         return None;
     }
     if bytes[at + 1] != b'u' {

@@ -1,8 +1,7 @@
 use Rattle.std.proofs.Common.{length, get_or, take, sym, subst, ◌<◌, arith}
-use Rattle.std.specs.Prelude.{IsSome}
 use Rattle.std.specs.Str.{IsUtf8}
 use Rattle.fp_canonical.proofs.Cuts.{cut_behind}
-use Rattle.fp_canonical.proofs.Exact.{front_text, is_ok_some}
+use Rattle.fp_canonical.proofs.Exact.{front_text, is_some_of}
 use Rattle.fp_canonical.proofs.cursor.Cursor.escaped.Goals as goal
 
 pub range_from-self-inside-requires : goal.range_from-self-inside-requires
@@ -19,5 +18,4 @@ returns-clause-taken c = λ s left is.
     let utf8 : IsUtf8 front =
     front_text c.as_bytes-bytes.result.now c.in-Some.at front c.as_bytes-bytes.ensures.utf8 (omega (arith, c.in-Some.ensures.within))
     c.in-Some.ensures.quote c.in-Some.ensures.spelled in
-    subst IsSome (sym c.ok.ensures.value)
-    (is_ok_some c.from_utf8.result _ _ c.from_utf8.ensures.cases (subst IsUtf8 (sym c.split_at_mut-front.ensures.front) utf8))
+    is_some_of c.utf8_text.result _ c.utf8_text.ensures (subst IsUtf8 (sym c.split_at_mut-front.ensures.front) utf8)
