@@ -57,7 +57,7 @@ loop-json-preserved c =
       known = known-turn xs i x p here pair ∙ c.loop-json.invariant.known;
       read = ap (λ ys. behind ys left) {y = done ++ share_rule s ∷ []}
           (ap (map share_rule) c.in_ok-push.ensures.items ∙ map-append share_rule c.loop-json.shares.items (s ∷ []))
-          ∙ ap (λ r. behind (done ++ r ∷ []) left) (share_rule-Text name p.0 p.1 c.in_ok-from_str.ensures.ok)
+          ∙ ap (λ r. behind (done ++ r ∷ []) left) (share_rule-Text name p.0 p.1 c.in_ok-from_str.ensures)
           ∙ read-turn done xs i x p here pair
           ∙ c.loop-json.invariant.read;
       within = kept (sum + unwrap_or p.1 1) c.in-Some-added.more more;
