@@ -96,17 +96,12 @@ fn one_by_one(bytes: &[u8], from: usize) -> usize
     len
 }
 
-/// Whether a string has the byte as it is: all but a quote, a backslash and the control bytes.
+// Whether a string has the byte as it is: all but a quote, a backslash and the control bytes. Most
+// that are asked for are letters.
 #[inline(always)]
-#[tactic(auto, unfolding(json::specs::Print::escape_byte))]
-pub fn is_unescaped(byte: u8) -> bool
-    ensures value { result ≡ is_unescaped byte }
-    // `true`: JSON writes it so.
-    ensures plain { result ≡ true → escape_byte byte ≡ byte ∷ [] }
-    // It says so of each byte that JSON writes so.
-    ensures all { escape_byte byte ≡ byte ∷ [] → result ≡ true }
+fn is_unescaped(byte: u8) -> bool
+    ensures { result ≡ is_unescaped byte }
 {
-    // Most are letters.
     byte > b'\\' || (byte >= 0x20 && byte != b'"' && byte != b'\\')
 }
 

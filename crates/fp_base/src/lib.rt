@@ -14,7 +14,7 @@ mod tree_reading;
 mod walks;
 mod writing;
 
-pub use escaping::{is_unescaped, put_quoted, unescaped_len};
+pub use escaping::{put_quoted, unescaped_len};
 pub use members::{take_from, take_member};
 pub use places::member_in_order;
 pub use texts::{canonical_text, canonical_text_within, read_json, utf8_text};
