@@ -20,3 +20,4 @@ pub mod Inside
 pub mod Counted
 pub mod Printed
 pub mod Unescaped
+mod Pieces

@@ -11,6 +11,7 @@ mod places;
 mod texts;
 mod tree;
 mod tree_reading;
+mod utf8;
 mod walks;
 mod writing;
 

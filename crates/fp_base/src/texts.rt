@@ -10,6 +10,7 @@ ghost use Rattle.fp_base.specs.Json.{json_of};
 ghost use Rattle.fp_base.specs.Text.{text_within};
 ghost use Rattle.fp_base.specs.Whole.{is_whole};
 
+use crate::utf8::is_utf8;
 use crate::walks::is_longer;
 use serde_json::Value;
 use std::alloc::{AllocError, Global};
@@ -23,11 +24,13 @@ pub fn utf8_text(bytes: &[u8]) -> Option<&str>
     ensures { MatchOption result (¬ (IsUtf8 bytes.now)) (λ text.
         (text.now ≡ bytes.now) × IsUtf8 bytes.now) }
 {
-    if bytes.len() < LONG {
-        str::from_utf8(bytes).ok()
-    } else {
-        simdutf8::basic::from_utf8(bytes).ok()
+    if bytes.len() >= LONG {
+        return simdutf8::basic::from_utf8(bytes).ok();
     }
+    if !is_utf8(bytes) {
+        return None;
+    }
+    Some(unsafe { str::from_utf8_unchecked(bytes) })
 }
 
 /// The value's canonical text: no spaces, and the members in ascending order of their names' bytes.

@@ -8,7 +8,8 @@ use Rattle.fp_canonical.proofs.strings.byte_at.Goals.{then-bytes-at-lt6-via-else
 use Rattle.fp_canonical.proofs.strings.byte_at.Goals.{then-bytes-at-lt6-via-else-bytes-at-lt6+else-bytes-at-ne48+then-bytes-at-ne48-2}
 
 pub returns-then-bytes-at-ne92-clause-taken : goal.returns-then-bytes-at-ne92-clause-taken
-returns-then-bytes-at-ne92-clause-taken c = λ x left here slash. absurd (go x slash (stands c.args.bytes.now c.args.at x left c.requires here))
+returns-then-bytes-at-ne92-clause-taken c = λ x left here slash.
+    absurd (go x slash (stands c.args.bytes.now c.args.at x left c.requires here))
   where
     no_escape : c.args.at + 2 ≤ length c.args.bytes.now → get_or c.args.bytes.now c.args.at 0 ≡ 92 → ⊥
     no_escape within is = elim c.then-bytes-at-ne92.branch [
@@ -22,7 +23,8 @@ returns-then-bytes-at-ne92-clause-taken c = λ x left here slash. absurd (go x s
     go x slash (inr (inr p)) = no_escape (omega (arith, p.0)) p.1
 
 pub returns-in_err-short-clause-taken : goal.returns-in_err-short-clause-taken
-returns-in_err-short-clause-taken c = λ x left here slash. absurd (go x slash (stands c.args.bytes.now c.args.at x left c.requires here))
+returns-in_err-short-clause-taken c = λ x left here slash.
+    absurd (go x slash (stands c.args.bytes.now c.args.at x left c.requires here))
   where
     go : (x : ℕ) → get_or c.args.bytes.now c.args.at 0 ≡ 92 → Stands c.args.bytes.now c.args.at x → ⊥
     go x slash (inl p) = (plain_of (get_or c.args.bytes.now c.args.at 0) p).2 slash
@@ -30,7 +32,8 @@ returns-in_err-short-clause-taken c = λ x left here slash. absurd (go x slash (
     go x slash (inr (inr p)) = omega (arith, p.2, c.if-bytes-at-ne117.true)
 
 pub returns-then-bytes-at-lt6-clause-taken : goal.returns-then-bytes-at-lt6-clause-taken
-returns-then-bytes-at-lt6-clause-taken c = λ x left here slash. absurd (go x slash (stands c.args.bytes.now c.args.at x left c.requires here))
+returns-then-bytes-at-lt6-clause-taken c = λ x left here slash.
+    absurd (go x slash (stands c.args.bytes.now c.args.at x left c.requires here))
   where
     go : (x : ℕ) → get_or c.args.bytes.now c.args.at 0 ≡ 92 → Stands c.args.bytes.now c.args.at x → ⊥
     go x slash (inl p) = (plain_of (get_or c.args.bytes.now c.args.at 0) p).2 slash
@@ -42,7 +45,8 @@ returns-then-bytes-at-lt6-clause-taken c = λ x left here slash. absurd (go x sl
     ]
 
 pub returns-in_err-numbered-clause-taken : goal.returns-in_err-numbered-clause-taken
-returns-in_err-numbered-clause-taken c = λ x left here slash. absurd (go x slash (stands c.args.bytes.now c.args.at x left c.requires here))
+returns-in_err-numbered-clause-taken c = λ x left here slash.
+    absurd (go x slash (stands c.args.bytes.now c.args.at x left c.requires here))
   where
     go : (x : ℕ) → get_or c.args.bytes.now c.args.at 0 ≡ 92 → Stands c.args.bytes.now c.args.at x → ⊥
     go x slash (inl p) = (plain_of (get_or c.args.bytes.now c.args.at 0) p).2 slash

@@ -1,0 +1,9 @@
+use Rattle.std.proofs.Common.{length, take, ◌-◌, ◌≤◌}
+use Rattle.std.specs.Str.{IsUtf8}
+use Rattle.fp_base.proofs.utf8.is_utf8.Given as goal
+
+abbrev pub invariant-loop-at : goal.invariant-loop-at
+invariant-loop-at l = (l.at ≤ length l.bytes) × IsUtf8 (take l.at l.bytes)
+
+abbrev pub decreases-loop-at : goal.decreases-loop-at
+decreases-loop-at l = length l.bytes - l.at
