@@ -51,7 +51,7 @@ behind_run (x ∷ xs) (y ∷ u) left same = go (form y) (behind_run xs u left)
     go (inl p) more =
         let same_byte : x ≡ y = ap (λ l. get_or l 0 0) (spelled _ p.0) in
         goes (is_unescaped x) x (prefix_len is_unescaped xs) xs left (ap is_unescaped same_byte ∙ bare y p.1 p.2 p.3)
-            (more (ap (drop 1) (spelled _ p.0)))
+        (more (ap (drop 1) (spelled _ p.0)))
     go (inr (inl p)) more = slash (ap (λ l. get_or l 0 0) (spelled _ p.3))
     go (inr (inr p)) more = slash (ap (λ l. get_or l 0 0) (spelled _ p.2))
 
