@@ -9,17 +9,17 @@ ghost use Rattle.fp_ofrep.specs.Seen.{body_seen, response_seen};
 
 use crate::evaluator::Evaluator;
 use crate::fault::NoReply;
-use fp_ofrep::{Body, KeptTags, Reply, answer_keeping};
+use fp_ofrep::{Body, Kept, Reply, answer_keeping};
 use fp_publish::Evaluator as Reader;
 use http::Method;
 use std::alloc::Global;
 use std::marker::Model;
 
-/// An evaluator of what is published, and the tags of what it replied for all flags.
+/// An evaluator of what is published, and what its connection keeps from request to request.
 #[derive(Drop)]
 pub struct Keeping {
     reader: Reader,
-    kept: Option<KeptTags>,
+    kept: Kept,
 }
 
 impl Model for Keeping {
@@ -43,7 +43,10 @@ impl Keeping {
     pub fn new(reader: Reader) -> Keeping
         ensures { result ≡ reader }
     {
-        Keeping { reader, kept: None }
+        Keeping {
+            reader,
+            kept: Kept::new(),
+        }
     }
 
     /// Gives the evaluator back, as it is.

@@ -44,13 +44,13 @@ pub(crate) fn evaluate_bulk(
     if_none_match: Option<&[u8]>,
     body: &[u8],
     now: u64,
+    scratch: &mut Scratch,
 ) -> Result<Reply, AllocError>
     requires { now < 2 ^ 63 }
     ensures { IfOk result (λ r. response_seen r
         ≡ bulk_reply set.now (option_copied if_none_match.entry) body.now now) }
 {
-    let mut scratch = Scratch::new(alloc);
-    match read_context(alloc, body, &mut scratch)? {
+    match read_context(alloc, body, scratch)? {
         Ok(context) => {
             let text = bulk_text(alloc, set, &context, now)?;
             tagged_reply(alloc, set.revision(), if_none_match, text)
@@ -68,6 +68,7 @@ pub(crate) fn reply_with_tag(
     body: &[u8],
     now: u64,
     tag: &[u8],
+    scratch: &mut Scratch,
 ) -> Result<Reply, AllocError>
     requires moment { now < 2 ^ 63 }
     requires tag { HasTag set.now body.now tag.now now }
@@ -78,8 +79,7 @@ pub(crate) fn reply_with_tag(
     if is_known(tag, if_none_match) {
         return Ok(not_modified(alloc, set.revision(), kept));
     }
-    let mut scratch = Scratch::new(alloc);
-    match read_context(alloc, body, &mut scratch)? {
+    match read_context(alloc, body, scratch)? {
         Ok(context) => {
             let text = bulk_text(alloc, set, &context, now)?;
             Ok(all_flags(set.revision(), kept, text))

@@ -1,7 +1,7 @@
-//! Tags that are kept for who asks for all flags again.
+//! What is kept for who asks again: room for reading, and the tags of replies for all flags.
 
 ghost use Rattle.std.specs.Prelude.{◌≡◌, ◌<◌, ◌^◌, ◌⊎◌, ℕ, IfOk, IfSome};
-ghost use Rattle.std.specs.Prelude.{OnErr, OnOk, Some, true};
+ghost use Rattle.std.specs.Prelude.{None, OnErr, OnOk, Some, true};
 ghost use Rattle.std.specs.FinMap as map;
 ghost use Rattle.std.specs.Option.{option_copied};
 ghost use Rattle.fp_group_commit.specs.Tokens.{front_set};
@@ -11,11 +11,12 @@ ghost use Rattle.fp_ofrep.specs.Seen.{body_seen, response_seen};
 
 use crate::bulk::reply_with_tag;
 use crate::reply::Reply;
-use crate::request::{Body, answer};
+use crate::request::{Body, answer_with};
 use crate::route::{Route, route_of};
 use fp_edit::FlagSet;
 use fp_publish::{Shown, View};
 use http::Method;
+use json::Scratch;
 use std::alloc::{AllocError, Global};
 use std::marker::Model;
 
@@ -25,6 +26,9 @@ pub const MOST_KEPT_TAGS: usize = 32;
 /// The most bytes of a request's body whose tag is kept.
 pub const LONGEST_KEPT_BODY: usize = 2_048;
 
+// The most bytes of a request's body whose room for reading stays.
+const LONGEST_BODY_OF_ROOM: usize = 16_384;
+
 // The tag of the reply to a request with this body. Bodies are compared whole: that two have one
 // digest doesn't show that they are the same.
 #[derive(Drop)]
@@ -33,10 +37,10 @@ struct KeptTag {
     tag: Vec<u8>,
 }
 
-/// Tags of replies for all flags, of one published set, each with the body that was asked by. None
-/// is kept of a set with a rule that may read the moment (`Definition::reads_moment`).
+// Tags of replies for all flags, of one published set, each with the body that was asked by. None
+// is kept of a set with a rule that may read the moment (`Definition::reads_moment`).
 #[derive(Drop)]
-pub struct KeptTags {
+struct KeptTags {
     shown: Shown,
     is_timeless: bool,
     tags: Vec<KeptTag>,
@@ -110,6 +114,61 @@ impl KeptTags {
         put_at(&mut self.tags, self.next % MOST_KEPT_TAGS, kept)?;
         self.next = self.next.wrapping_add(1);
         Ok(())
+    }
+}
+
+/// What a connection keeps from request to request: tags of replies for all flags, and the room
+/// that bodies are read with, whose 16 KB are then cleared once. It is made for the first request,
+/// in a box, so that moving this is cheap.
+#[derive(Drop)]
+pub struct Kept {
+    tags: Option<KeptTags>,
+    scratch: Option<Box<Scratch>>,
+}
+
+impl Model for Kept {
+    ghost use Rattle.std.specs.Prelude.{Option};
+    ghost use Rattle.std.specs.Coded.{codes};
+    ghost use Rattle.fp_edit.specs.Flags.{coded_state};
+    ghost use Rattle.fp_group_commit.specs.Changes.{coded_change};
+    ghost use Rattle.fp_group_commit.specs.Tokens.{FrontState};
+
+    ghost Value = { Option FrontState };
+
+    ghost coded = { Prim.hlevel (codes, coded_state, coded_change) };
+
+    ghost view = { λ k. k.tags };
+}
+
+impl Kept {
+    /// Nothing yet, which takes no memory.
+    pub fn new() -> Kept
+        ensures { result ≡ None }
+    {
+        Kept {
+            tags: None,
+            scratch: None,
+        }
+    }
+}
+
+// The room for reading, made where there is none.
+fn room_in(alloc: Global, kept: &mut Option<Box<Scratch>>) -> Result<&mut Scratch, AllocError> {
+    if kept.is_none() {
+        *kept = Some(Box::new(alloc, Scratch::new(alloc))?);
+    }
+    match kept {
+        Some(scratch) => Ok(scratch),
+        None => Err(AllocError),
+    }
+}
+
+// Gives the room back behind a long body, by which it grew.
+fn give_back(kept: &mut Option<Box<Scratch>>, body: Body<'_>) {
+    if let Body::Whole(bytes) = body
+        && bytes.len() > LONGEST_BODY_OF_ROOM
+    {
+        *kept = None;
     }
 }
 
@@ -194,10 +253,11 @@ fn note(alloc: Global, kept: &mut Option<KeptTags>, view: &View<'_>, body: &[u8]
     *kept = Some(tags);
 }
 
-/// As `answer`, for less work where all flags are asked for again by the same body: a reply whose
-/// tag is kept isn't hashed, and isn't made where the client has it. Tags of the last
-/// `MOST_KEPT_TAGS` bodies of at most `LONGEST_KEPT_BODY` bytes are kept, where there is memory for
-/// them, and forgotten where another set is lent.
+/// As `answer`, for less work: the room that a body is read with is kept, and where all flags are
+/// asked for again by the same body, a reply whose tag is kept isn't hashed, and isn't made where
+/// the client has it. Tags of the last `MOST_KEPT_TAGS` bodies of at most `LONGEST_KEPT_BODY` bytes
+/// are kept, where there is memory for them, and forgotten where another set is lent. The room is
+/// given back behind a body of more than 16 KB.
 pub fn answer_keeping(
     alloc: Global,
     view: &View<'_>,
@@ -206,7 +266,7 @@ pub fn answer_keeping(
     if_none_match: Option<&[u8]>,
     body: Body<'_>,
     now: u64,
-    kept: &mut Option<KeptTags>,
+    kept: &mut Kept,
 ) -> Result<Reply, AllocError>
     // The moment is below 2^63.
     requires moment { now < 2 ^ 63 }
@@ -221,15 +281,19 @@ pub fn answer_keeping(
     // It is as it was, or of what is lent.
     ensures kept { (kept.new ≡ kept.old) ⊎ (kept.new ≡ Some view.now) }
 {
+    let set = view.set();
+    let room = room_in(alloc, &mut kept.scratch)?;
     let Some(asked) = bulk_body(method, target, body) else {
-        return answer(alloc, view, method, target, if_none_match, body, now);
+        let reply = answer_with(alloc, set, method, target, if_none_match, body, now, room);
+        give_back(&mut kept.scratch, body);
+        return reply;
     };
-    if let Some(tag) = known_tag(kept, view, asked) {
-        return reply_with_tag(alloc, view.set(), if_none_match, asked, now, tag);
+    if let Some(tag) = known_tag(&kept.tags, view, asked) {
+        return reply_with_tag(alloc, set, if_none_match, asked, now, tag, room);
     }
-    let reply = answer(alloc, view, method, target, if_none_match, body, now)?;
+    let reply = answer_with(alloc, set, method, target, if_none_match, body, now, room)?;
     if let Some(tag) = &reply.headers.etag {
-        note(alloc, kept, view, asked, tag);
+        note(alloc, &mut kept.tags, view, asked, tag);
     }
     Ok(reply)
 }

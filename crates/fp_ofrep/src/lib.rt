@@ -13,7 +13,7 @@ mod single;
 mod tag;
 mod write;
 
-pub use keeping::{KeptTags, LONGEST_KEPT_BODY, MOST_KEPT_TAGS, answer_keeping};
+pub use keeping::{Kept, LONGEST_KEPT_BODY, MOST_KEPT_TAGS, answer_keeping};
 pub use laws::{all_flags_agree_with_each, one_flag_is_looked_at, same_flags_have_the_same_tag};
 pub use reply::{Headers, Reply};
 pub use request::{Body, LONGEST_BODY, answer, answer_for, answer_over};

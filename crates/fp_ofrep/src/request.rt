@@ -15,6 +15,7 @@ use crate::single::{evaluate_key, evaluate_single};
 use fp_edit::FlagSet;
 use fp_publish::View;
 use http::{Method, StatusCode};
+use json::Scratch;
 use std::alloc::{AllocError, Global};
 
 /// The most bytes that a request's body has.
@@ -29,7 +30,7 @@ pub enum Body<'b> {
 }
 
 /// The reply to a request over what is published, at a moment in seconds since 1970. At `Err`
-/// memory was refused, and nothing happened.
+/// memory was refused, and nothing happened. The room that the body is read with is made anew.
 pub fn answer(
     alloc: Global,
     view: &View<'_>,
@@ -66,7 +67,16 @@ pub fn answer_for(
     ensures { IfOk result (λ r. response_seen r
         ≡ reply_for (front_set view.now) key.now (body_seen body.entry) now) }
 {
-    posted(alloc, view.set(), Route::Key(key), None, body, now)
+    let mut scratch = Scratch::new(alloc);
+    posted(
+        alloc,
+        view.set(),
+        Route::Key(key),
+        None,
+        body,
+        now,
+        &mut scratch,
+    )
 }
 
 /// As `answer`, over any set of flags.
@@ -87,8 +97,37 @@ pub fn answer_over(
         ≡ reply set.now method.now target.now (option_copied if_none_match.entry)
         (body_seen body.entry) now) }
 {
+    let mut scratch = Scratch::new(alloc);
+    answer_with(
+        alloc,
+        set,
+        method,
+        target,
+        if_none_match,
+        body,
+        now,
+        &mut scratch,
+    )
+}
+
+/// The same, with the room that the body is read with.
+pub(crate) fn answer_with(
+    alloc: Global,
+    set: &FlagSet,
+    method: &Method,
+    target: &str,
+    if_none_match: Option<&[u8]>,
+    body: Body<'_>,
+    now: u64,
+    scratch: &mut Scratch,
+) -> Result<Reply, AllocError>
+    requires { now < 2 ^ 63 }
+    ensures { IfOk result (λ r. response_seen r
+        ≡ reply set.now method.now target.now (option_copied if_none_match.entry)
+        (body_seen body.entry) now) }
+{
     let route = route_of(target.as_bytes());
-    routed(alloc, set, route, method, if_none_match, body, now)
+    routed(alloc, set, route, method, if_none_match, body, now, scratch)
 }
 
 fn routed(
@@ -99,6 +138,7 @@ fn routed(
     if_none_match: Option<&[u8]>,
     body: Body<'_>,
     now: u64,
+    scratch: &mut Scratch,
 ) -> Result<Reply, AllocError>
     requires { now < 2 ^ 63 }
     ensures { IfOk result (λ r. response_seen r
@@ -111,7 +151,7 @@ fn routed(
     if method.as_str() != "POST" {
         return Ok(only_post(alloc));
     }
-    posted(alloc, set, route, if_none_match, body, now)
+    posted(alloc, set, route, if_none_match, body, now, scratch)
 }
 
 fn posted(
@@ -121,6 +161,7 @@ fn posted(
     if_none_match: Option<&[u8]>,
     body: Body<'_>,
     now: u64,
+    scratch: &mut Scratch,
 ) -> Result<Reply, AllocError>
     requires { now < 2 ^ 63 }
     ensures { IfOk result (λ r. response_seen r
@@ -133,7 +174,7 @@ fn posted(
     if body.len() > LONGEST_BODY {
         return Ok(empty(alloc, StatusCode::PAYLOAD_TOO_LARGE));
     }
-    evaluated(alloc, set, route, if_none_match, body, now)
+    evaluated(alloc, set, route, if_none_match, body, now, scratch)
 }
 
 fn evaluated(
@@ -143,6 +184,7 @@ fn evaluated(
     if_none_match: Option<&[u8]>,
     body: &[u8],
     now: u64,
+    scratch: &mut Scratch,
 ) -> Result<Reply, AllocError>
     requires { now < 2 ^ 63 }
     ensures { IfOk result (λ r. response_seen r
@@ -150,9 +192,9 @@ fn evaluated(
         body.now now) }
 {
     match route {
-        Route::Bulk => evaluate_bulk(alloc, set, if_none_match, body, now),
-        Route::Single(segment) => evaluate_single(alloc, set, segment, body, now),
-        Route::Key(text) => evaluate_key(alloc, set, text, body, now),
+        Route::Bulk => evaluate_bulk(alloc, set, if_none_match, body, now, scratch),
+        Route::Single(segment) => evaluate_single(alloc, set, segment, body, now, scratch),
+        Route::Key(text) => evaluate_key(alloc, set, text, body, now, scratch),
     }
 }
 

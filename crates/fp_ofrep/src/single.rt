@@ -37,12 +37,13 @@ pub(crate) fn evaluate_single(
     segment: &[u8],
     body: &[u8],
     now: u64,
+    scratch: &mut Scratch,
 ) -> Result<Reply, AllocError>
     requires { now < 2 ^ 63 }
     ensures { IfOk result (λ r. response_seen r ≡ single_reply set.now segment.now body.now now) }
 {
     let key = percent_decode(segment).into_cow(alloc)?;
-    decoded_reply(alloc, set, &key, body, now)
+    decoded_reply(alloc, set, &key, body, now, scratch)
 }
 
 fn decoded_reply(
@@ -51,34 +52,39 @@ fn decoded_reply(
     key: &[u8],
     body: &[u8],
     now: u64,
+    scratch: &mut Scratch,
 ) -> Result<Reply, AllocError>
     requires { now < 2 ^ 63 }
     ensures { IfOk result
         (λ r. response_seen r ≡ reply_for_decoded_key set.now key.now body.now now) }
 {
     match str::from_utf8(key) {
-        Ok(text) => evaluate_key(alloc, set, text, body, now),
-        Err(_) => broken_reply(alloc, key, body),
+        Ok(text) => evaluate_key(alloc, set, text, body, now, scratch),
+        Err(_) => broken_reply(alloc, key, body, scratch),
     }
 }
 
 // The reply at a key that isn't UTF-8.
-fn broken_reply(alloc: Global, key: &[u8], body: &[u8]) -> Result<Reply, AllocError>
+fn broken_reply(
+    alloc: Global,
+    key: &[u8],
+    body: &[u8],
+    scratch: &mut Scratch,
+) -> Result<Reply, AllocError>
     ensures { IfOk result (λ r. (set : State) (now : ℕ)
         → response_seen r ≡ reply_for_invalid_utf8 set (utf8_lossy key.now) body.now now) }
 {
     let shown = String::from_utf8_lossy(alloc, key)?;
-    let failure = body_failure(alloc, body)?;
+    let failure = body_failure(alloc, body, scratch)?;
     failed(alloc, failure, Some(shown.as_str()))
 }
 
 // What stands against a request for a flag that isn't there.
-fn body_failure(alloc: Global, body: &[u8]) -> Result<Failure, AllocError>
+fn body_failure(alloc: Global, body: &[u8], scratch: &mut Scratch) -> Result<Failure, AllocError>
     ensures { IfOk result (λ f. (shown : List ℕ) (now : ℕ)
         → after_body shown None (context_of body.now) now ≡ Err f) }
 {
-    let mut scratch = Scratch::new(alloc);
-    match read_context(alloc, body, &mut scratch)? {
+    match read_context(alloc, body, scratch)? {
         Ok(_) => Ok(Failure::NotFound),
         Err(failure) => Ok(failure),
     }
@@ -91,12 +97,12 @@ pub(crate) fn evaluate_key(
     text: &str,
     body: &[u8],
     now: u64,
+    scratch: &mut Scratch,
 ) -> Result<Reply, AllocError>
     requires { now < 2 ^ 63 }
     ensures { IfOk result (λ r. response_seen r ≡ reply_with_key set.now text.now body.now now) }
 {
-    let mut scratch = Scratch::new(alloc);
-    match read_context(alloc, body, &mut scratch)? {
+    match read_context(alloc, body, scratch)? {
         Ok(context) => found_reply(alloc, set, text, &context, now),
         Err(failure) => failed(alloc, failure, Some(text)),
     }
