@@ -15,6 +15,9 @@ use std::alloc::{AllocError, Global};
 use std::fmt;
 use std::io::Write;
 
+// The room that the line of a refusal usually needs.
+const USUAL_ROOM: usize = 64;
+
 /// What a line of an editor is answered.
 #[derive(Debug, Drop)]
 pub enum Answer {
@@ -45,7 +48,8 @@ fn line_of(alloc: Global, reply: &Reply) -> Result<Vec<u8>, AllocError>
     ensures { IfOk result
         (λ line. line.items ≡ flags.reply_text (reply_of_code reply.now) ++ 10 ∷ []) }
 {
-    let mut line = reply.text(alloc)?;
+    let mut line = Vec::with_capacity(alloc, USUAL_ROOM)?;
+    reply.put_text(&mut line)?;
     line.push(b'\n')?;
     Ok(line)
 }

@@ -1,6 +1,7 @@
 pub mod Commits
 pub mod Sessions
 pub mod LineLemmas
+pub mod TextLemmas
 pub mod RunLemmas
 pub mod ProgressLemmas
 pub mod Sourcing

@@ -56,6 +56,11 @@ flag_text f = codes "{\"detail\":\"" ++ word_of f ++ codes "\",\"error\":\"flag\
 abbrev pub placed : ℕ → List ℕ → List ℕ
 placed at text = codes "{\"at\":" ++ decimal at ++ codes "," ++ drop 1 text
 
+-- an object's text, with its place in front where it stands in a set
+abbrev pub placed_if : Option ℕ → List ℕ → List ℕ
+placed_if None text = text
+placed_if (Some at) text = placed at text
+
 abbrev pub line_text : line.Fault → List ℕ
 line_text line.too_long = error_text (codes "line-too-long")
 line_text line.not_json = error_text (codes "not-json")

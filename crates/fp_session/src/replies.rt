@@ -29,6 +29,9 @@ pub const LONG: usize = 65_536;
 /// The most replies that wait until what they tell of is kept.
 pub const MOST_WAITING: usize = 1_024;
 
+// The room for a reply: most tell of a revision, or that the store failed.
+const REPLY_ROOM: usize = 32;
+
 /// What is answered, and isn't sent yet: the texts of replies, and behind them those that wait
 /// until what they tell of is kept.
 #[derive(Drop)]
@@ -241,11 +244,12 @@ impl Replies {
         ensures told { IfOk result (λ t. IsToldUpTo is_kept self.now.waiting.items t
             (length self.now.waiting.items)) }
     {
-        let mut telling = Telling::new(alloc);
+        let room = self.waiting.len().saturating_mul(REPLY_ROOM);
+        let mut telling = Telling::with_room(alloc, room)?;
         let mut i = 0;
         while i < self.waiting.len() {
             let failed = Reply::StoreFailed;
-            telling.add(alloc, as_told(&self.waiting[i], is_kept, &failed))?;
+            telling.add(as_told(&self.waiting[i], is_kept, &failed))?;
             i += 1;
         }
         Ok(telling)
@@ -275,26 +279,25 @@ struct Telling {
 }
 
 impl Telling {
-    // No reply yet.
-    fn new(alloc: Global) -> Telling
-        ensures text { result.text.items ≡ [] }
-        ensures told { result.is_told ≡ true }
+    // No reply yet, and room for so many bytes.
+    fn with_room(alloc: Global, room: usize) -> Result<Telling, AllocError>
+        ensures text { IfOk result (λ t. t.text.items ≡ []) }
+        ensures told { IfOk result (λ t. t.is_told ≡ true) }
     {
-        Telling {
-            text: Vec::new(alloc),
+        Ok(Telling {
+            text: Vec::with_capacity(alloc, room)?,
             is_told: true,
-        }
+        })
     }
 
     // Puts a reply on a line of its own behind the others.
-    fn add(&mut self, alloc: Global, reply: &Reply) -> Result<(), AllocError>
+    fn add(&mut self, reply: &Reply) -> Result<(), AllocError>
         ensures text { OnOk result
             (self.new.text.items ≡ self.old.text.items ++ texts_of (reply_of_code reply.now ∷ [])) }
         ensures told { OnOk result
             (self.new.is_told ≡ (self.old.is_told && is_told (reply_of_code reply.now))) }
     {
-        let line = reply.text(alloc)?;
-        self.text.extend_from_slice(&line)?;
+        reply.put_text(&mut self.text)?;
         self.text.push(b'\n')?;
         self.is_told = self.is_told && !reply.is_out_of_memory();
         Ok(())

@@ -1,6 +1,6 @@
 //! Reply lines.
 
-ghost use Rattle.std.specs.Prelude.{◌≡◌, ◌<◌, ◌++◌, not, Some, length, IfOk, OnOk};
+ghost use Rattle.std.specs.Prelude.{◌≡◌, ◌++◌, ℕ, List, not, Some, codes, decimal, OnOk};
 ghost use Rattle.fp_definition.specs.Faults as flag;
 ghost use Rattle.fp_definition.specs.Valid as flag_fault;
 ghost use Rattle.fp_session.specs.Reply as say;
@@ -10,7 +10,7 @@ use fp_base::put_quoted;
 use fp_definition::DefFault;
 use fp_edit::{EditFault, LineFault, PartFault};
 use itoa::Buffer;
-use std::alloc::{AllocError, Global};
+use std::alloc::AllocError;
 
 /// What a line of input is answered.
 #[derive(Debug, Drop)]
@@ -26,16 +26,17 @@ pub enum Reply {
 }
 
 impl Reply {
-    /// The reply as JSON, without the newline that ends its line: the text that the table of
-    /// replies has.
-    pub fn text(&self, alloc: Global) -> Result<Vec<u8>, AllocError>
-        ensures { IfOk result (λ t. t.items ≡ reply_text (reply_of_code self.now)) }
+    /// Puts the reply as JSON behind what is there, without the newline that ends its line: the
+    /// text that the table of replies has.
+    pub fn put_text(&self, out: &mut Vec<u8>) -> Result<(), AllocError>
+        ensures { OnOk result
+            (out.new.items ≡ out.old.items ++ reply_text (reply_of_code self.now)) }
     {
         match self {
-            Reply::Revision(revision) => revision_text(alloc, *revision),
-            Reply::Refused(fault) => refusal_text(alloc, fault),
-            Reply::NoEdit(fault) => fault_text(alloc, fault),
-            Reply::StoreFailed => error_text(alloc, "store-failed"),
+            Reply::Revision(revision) => put_revision(out, *revision),
+            Reply::Refused(fault) => put_refusal(out, fault),
+            Reply::NoEdit(fault) => put_fault(out, fault),
+            Reply::StoreFailed => put_error(out, None, "store-failed"),
         }
     }
 
@@ -76,149 +77,159 @@ fn is_want_of_memory(fault: &LineFault) -> bool
     )
 }
 
-fn error_text(alloc: Global, name: &str) -> Result<Vec<u8>, AllocError>
-    ensures { IfOk result (λ t. t.items ≡ say.error_text name.now) }
+fn put_revision(out: &mut Vec<u8>, revision: u64) -> Result<(), AllocError>
+    ensures { OnOk result
+        (out.new.items ≡ out.old.items ++ reply_text (say.revision revision)) }
 {
-    let mut text = Vec::from_slice(alloc, b"{\"error\":\"")?;
-    text.extend_from_slice(name.as_bytes())?;
-    text.extend_from_slice(b"\"}")?;
-    Ok(text)
+    out.extend_from_slice(b"{\"revision\":")?;
+    out.extend_from_slice(Buffer::new().format(revision).as_bytes())?;
+    out.extend_from_slice(b"}")?;
+    Ok(())
 }
 
-fn revision_text(alloc: Global, revision: u64) -> Result<Vec<u8>, AllocError>
-    ensures { IfOk result (λ t. t.items ≡ reply_text (say.revision revision)) }
+fn put_refusal(out: &mut Vec<u8>, fault: &EditFault) -> Result<(), AllocError>
+    ensures { OnOk result
+        (out.new.items ≡ out.old.items ++ reply_text (say.refusal_of fault.now)) }
 {
-    let mut text = Vec::from_slice(alloc, b"{\"revision\":")?;
-    text.extend_from_slice(Buffer::new().format(revision).as_bytes())?;
-    text.extend_from_slice(b"}")?;
-    Ok(text)
+    match fault {
+        EditFault::Conflict { current } => put_conflict(out, None, *current),
+        EditFault::ConflictIn { at, current } => put_conflict(out, Some(*at), *current),
+        EditFault::SetTooLarge => put_error(out, None, "set-too-large"),
+        EditFault::RevisionsUsed => put_error(out, None, "revisions-used"),
+        EditFault::Memory => put_error(out, None, "out-of-memory"),
+    }
 }
 
-fn conflict_text(alloc: Global, current: Option<u64>) -> Result<Vec<u8>, AllocError>
-    ensures { IfOk result (λ t. t.items ≡ reply_text (say.conflict current)) }
+fn put_fault(out: &mut Vec<u8>, fault: &LineFault) -> Result<(), AllocError>
+    ensures { OnOk result
+        (out.new.items ≡ out.old.items ++ reply_text (say.fault_of fault.now)) }
 {
-    let mut text = Vec::from_slice(alloc, b"{\"current\":")?;
-    put_number_or_null(&mut text, current)?;
-    text.extend_from_slice(b",\"error\":\"conflict\"}")?;
-    Ok(text)
+    match fault {
+        LineFault::TooLong => put_error(out, None, "line-too-long"),
+        LineFault::NotJson => put_error(out, None, "not-json"),
+        LineFault::NotObject => put_error(out, None, "not-object"),
+        LineFault::BadMember => put_error(out, None, "bad-member"),
+        LineFault::BadOp => put_error(out, None, "bad-op"),
+        LineFault::BadKey => put_error(out, None, "bad-key"),
+        LineFault::BadIf => put_error(out, None, "bad-if"),
+        LineFault::BadFlag(fault) => put_flag(out, fault),
+        LineFault::BadSet => put_error(out, None, "bad-set"),
+        LineFault::InSet { at, fault } => put_part(out, *at, fault),
+        LineFault::Memory => put_error(out, None, "out-of-memory"),
+    }
 }
 
-fn put_number_or_null(text: &mut Vec<u8>, number: Option<u64>) -> Result<(), AllocError>
-    ensures { OnOk result (text.new.items ≡ text.old.items ++ say.number_or_null number) }
+fn put_part(out: &mut Vec<u8>, at: usize, fault: &PartFault) -> Result<(), AllocError>
+    ensures { OnOk result
+        (out.new.items ≡ out.old.items ++ reply_text (say.fault_in at fault.now)) }
+{
+    match fault {
+        PartFault::NotObject => put_error(out, Some(at), "not-object"),
+        PartFault::BadMember => put_error(out, Some(at), "bad-member"),
+        PartFault::BadOp => put_error(out, Some(at), "bad-op"),
+        PartFault::BadKey => put_error(out, Some(at), "bad-key"),
+        PartFault::BadIf => put_error(out, Some(at), "bad-if"),
+        PartFault::BadFlag(fault) => put_placed_flag(out, at, fault),
+        PartFault::Memory => put_error(out, None, "out-of-memory"),
+    }
+}
+
+fn put_flag(out: &mut Vec<u8>, fault: &DefFault) -> Result<(), AllocError>
+    ensures { OnOk result (out.new.items
+        ≡ out.old.items ++ reply_text (say.bad_flag_or_memory (flag.tells fault.now))) }
+{
+    match fault {
+        DefFault::Memory => put_error(out, None, "out-of-memory"),
+        _ => put_detail(out, None, fault),
+    }
+}
+
+fn put_placed_flag(out: &mut Vec<u8>, at: usize, fault: &DefFault) -> Result<(), AllocError>
+    ensures { OnOk result (out.new.items
+        ≡ out.old.items ++ reply_text (say.bad_flag_in_or_memory at (flag.tells fault.now))) }
+{
+    match fault {
+        DefFault::Memory => put_error(out, None, "out-of-memory"),
+        _ => put_detail(out, Some(at), fault),
+    }
+}
+
+fn put_error(out: &mut Vec<u8>, at: Option<usize>, name: &str) -> Result<(), AllocError>
+    ensures { OnOk result
+        (out.new.items ≡ out.old.items ++ say.placed_if at (say.error_text name.now)) }
+{
+    put_opening(out, at)?;
+    out.extend_from_slice(b"\"error\":\"")?;
+    out.extend_from_slice(name.as_bytes())?;
+    out.extend_from_slice(b"\"}")?;
+    Ok(())
+}
+
+fn put_conflict(
+    out: &mut Vec<u8>,
+    at: Option<usize>,
+    current: Option<u64>,
+) -> Result<(), AllocError>
+    ensures { OnOk result
+        (out.new.items ≡ out.old.items ++ say.placed_if at (say.conflict_text current)) }
+{
+    put_opening(out, at)?;
+    out.extend_from_slice(b"\"current\":")?;
+    put_number_or_null(out, current)?;
+    out.extend_from_slice(b",\"error\":\"conflict\"}")?;
+    Ok(())
+}
+
+fn put_detail(out: &mut Vec<u8>, at: Option<usize>, fault: &DefFault) -> Result<(), AllocError>
+    ensures { OnOk result ((f : flag_fault.Fault) → flag.tells fault.now ≡ Some f
+        → out.new.items ≡ out.old.items ++ say.placed_if at (say.flag_text f)) }
+{
+    put_opening(out, at)?;
+    out.extend_from_slice(b"\"detail\":\"")?;
+    out.extend_from_slice(fault.as_str().as_bytes())?;
+    out.extend_from_slice(b"\",\"error\":\"flag\"")?;
+    put_operator(out, fault)?;
+    out.extend_from_slice(b"}")?;
+    Ok(())
+}
+
+// Puts how an object begins: with its place in a set, where it has one.
+fn put_opening(out: &mut Vec<u8>, at: Option<usize>) -> Result<(), AllocError>
+    ensures { OnOk result ((members : List ℕ) → out.new.items ++ members
+        ≡ out.old.items ++ say.placed_if at (codes "{" ++ members)) }
+{
+    match at {
+        None => out.extend_from_slice(b"{"),
+        Some(at) => put_place(out, at),
+    }
+}
+
+fn put_place(out: &mut Vec<u8>, at: usize) -> Result<(), AllocError>
+    ensures { OnOk result (out.new.items
+        ≡ out.old.items ++ codes "{\"at\":" ++ decimal at ++ codes ",") }
+{
+    out.extend_from_slice(b"{\"at\":")?;
+    out.extend_from_slice(Buffer::new().format(at).as_bytes())?;
+    out.extend_from_slice(b",")?;
+    Ok(())
+}
+
+fn put_number_or_null(out: &mut Vec<u8>, number: Option<u64>) -> Result<(), AllocError>
+    ensures { OnOk result (out.new.items ≡ out.old.items ++ say.number_or_null number) }
 {
     match number {
-        Some(number) => text.extend_from_slice(Buffer::new().format(number).as_bytes()),
-        None => text.extend_from_slice(b"null"),
+        Some(number) => out.extend_from_slice(Buffer::new().format(number).as_bytes()),
+        None => out.extend_from_slice(b"null"),
     }
 }
 
-fn refusal_text(alloc: Global, fault: &EditFault) -> Result<Vec<u8>, AllocError>
-    ensures { IfOk result (λ t. t.items ≡ reply_text (say.refusal_of fault.now)) }
-{
-    match fault {
-        EditFault::Conflict { current } => conflict_text(alloc, *current),
-        EditFault::ConflictIn { at, current } => {
-            placed(alloc, *at, &conflict_text(alloc, *current)?)
-        }
-        EditFault::SetTooLarge => error_text(alloc, "set-too-large"),
-        EditFault::RevisionsUsed => error_text(alloc, "revisions-used"),
-        EditFault::Memory => error_text(alloc, "out-of-memory"),
-    }
-}
-
-fn fault_text(alloc: Global, fault: &LineFault) -> Result<Vec<u8>, AllocError>
-    ensures { IfOk result (λ t. t.items ≡ reply_text (say.fault_of fault.now)) }
-{
-    match fault {
-        LineFault::TooLong => error_text(alloc, "line-too-long"),
-        LineFault::NotJson => error_text(alloc, "not-json"),
-        LineFault::NotObject => error_text(alloc, "not-object"),
-        LineFault::BadMember => error_text(alloc, "bad-member"),
-        LineFault::BadOp => error_text(alloc, "bad-op"),
-        LineFault::BadKey => error_text(alloc, "bad-key"),
-        LineFault::BadIf => error_text(alloc, "bad-if"),
-        LineFault::BadFlag(fault) => flag_text(alloc, fault),
-        LineFault::BadSet => error_text(alloc, "bad-set"),
-        LineFault::InSet { at, fault } => part_text(alloc, *at, fault),
-        LineFault::Memory => error_text(alloc, "out-of-memory"),
-    }
-}
-
-fn part_text(alloc: Global, at: usize, fault: &PartFault) -> Result<Vec<u8>, AllocError>
-    ensures { IfOk result (λ t. t.items ≡ reply_text (say.fault_in at fault.now)) }
-{
-    match fault {
-        PartFault::NotObject => placed_error_text(alloc, at, "not-object"),
-        PartFault::BadMember => placed_error_text(alloc, at, "bad-member"),
-        PartFault::BadOp => placed_error_text(alloc, at, "bad-op"),
-        PartFault::BadKey => placed_error_text(alloc, at, "bad-key"),
-        PartFault::BadIf => placed_error_text(alloc, at, "bad-if"),
-        PartFault::BadFlag(fault) => placed_flag_text(alloc, at, fault),
-        PartFault::Memory => error_text(alloc, "out-of-memory"),
-    }
-}
-
-fn placed_error_text(alloc: Global, at: usize, name: &str) -> Result<Vec<u8>, AllocError>
-    ensures { IfOk result (λ t. t.items ≡ say.placed at (say.error_text name.now)) }
-{
-    let text = error_text(alloc, name)?;
-    placed(alloc, at, &text)
-}
-
-fn placed_flag_text(alloc: Global, at: usize, fault: &DefFault) -> Result<Vec<u8>, AllocError>
-    ensures { IfOk result
-        (λ t. t.items ≡ reply_text (say.bad_flag_in_or_memory at (flag.tells fault.now))) }
-{
-    match fault {
-        DefFault::Memory => error_text(alloc, "out-of-memory"),
-        _ => {
-            let text = detail_text(alloc, fault)?;
-            placed(alloc, at, &text)
-        }
-    }
-}
-
-// An object's text, with its place in a set as its first member.
-fn placed(alloc: Global, at: usize, text: &[u8]) -> Result<Vec<u8>, AllocError>
-    requires { 0 < length text.now }
-    ensures { IfOk result (λ t. t.items ≡ say.placed at text.now) }
-{
-    let mut placed = Vec::from_slice(alloc, b"{\"at\":")?;
-    placed.extend_from_slice(Buffer::new().format(at).as_bytes())?;
-    placed.extend_from_slice(b",")?;
-    placed.extend_from_slice(&text[1..])?;
-    Ok(placed)
-}
-
-fn flag_text(alloc: Global, fault: &DefFault) -> Result<Vec<u8>, AllocError>
-    ensures { IfOk result
-        (λ t. t.items ≡ reply_text (say.bad_flag_or_memory (flag.tells fault.now))) }
-{
-    match fault {
-        DefFault::Memory => error_text(alloc, "out-of-memory"),
-        _ => detail_text(alloc, fault),
-    }
-}
-
-fn detail_text(alloc: Global, fault: &DefFault) -> Result<Vec<u8>, AllocError>
-    ensures { IfOk result (λ t. (f : flag_fault.Fault) → flag.tells fault.now ≡ Some f
-        → t.items ≡ say.flag_text f) }
-{
-    let mut text = Vec::from_slice(alloc, b"{\"detail\":\"")?;
-    text.extend_from_slice(fault.as_str().as_bytes())?;
-    text.extend_from_slice(b"\",\"error\":\"flag\"")?;
-    put_operator(&mut text, fault)?;
-    text.extend_from_slice(b"}")?;
-    Ok(text)
-}
-
-fn put_operator(text: &mut Vec<u8>, fault: &DefFault) -> Result<(), AllocError>
+fn put_operator(out: &mut Vec<u8>, fault: &DefFault) -> Result<(), AllocError>
     ensures { OnOk result ((f : flag_fault.Fault) → flag.tells fault.now ≡ Some f
-        → text.new.items ≡ text.old.items ++ say.operator_member f) }
+        → out.new.items ≡ out.old.items ++ say.operator_member f) }
 {
     if let DefFault::UnsupportedOperator(name) = fault {
-        text.extend_from_slice(b",\"operator\":")?;
-        put_quoted(text, name.as_str())?;
+        out.extend_from_slice(b",\"operator\":")?;
+        put_quoted(out, name.as_str())?;
     }
     Ok(())
 }
