@@ -2,7 +2,6 @@
 use Rattle.std.specs.Prelude.{◌≡◌, ℕ, List, String, string_bytes}
 use Rattle.std.specs.String.{string_capacity}
 use Rattle.std.specs.declared.alloc.Global.{Global}
-use Rattle.arrayvec.specs.ArrayString.{ArrayString}
 use Rattle.fp_operators.specs.declared.kept_text.Kept.{Kept}
 use Rattle.fp_operators.specs.declared.kept_text.Kept.TheVariants.{Short, Long}
 use Rattle.fp_operators.specs.declared.kept_text.TheConstants.{SHORT_TEXT}
