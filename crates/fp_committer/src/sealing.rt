@@ -131,9 +131,9 @@ impl<D: Disk> StoreHalf<D> {
         ensures cause { IfErr result (FailsBy D.Disk self.old.store self.new.store) }
         // `Err`: the calls were those of whole works, and some first ones of one more.
         ensures called { OnErr result (BreaksOff D.Disk self.old.store self.new.store) }
-        // `Ok`: the step was taken where one was due: where a compaction runs, or one may begin, and
-        // less than a quarter of a slot is left for batches or the slot is older than all that is
-        // written.
+        // `Ok`: the step was taken where one was due: where a compaction runs, or where one may
+        // begin, and less than a quarter of a slot is left for batches or the slot is older than
+        // all that is written.
         ensures taken { OnOk result
             (IsDue self.old.store → Compacts D.faults self.old.store self.new.store) }
         // `Ok`: where none was due the store is as before.
