@@ -1,9 +1,11 @@
 -- Steps of a compaction, as a store at rest takes them.
-use Rattle.std.specs.Prelude.{◌≡◌, ◌<◌, false}
+use Rattle.std.specs.Prelude.{◌≡◌, ◌≢◌, ◌⊎◌, ◌<◌, ◌/◌, false}
 use Rattle.fp_disk.specs.Crashes.{AtAnyMoment, EachCrash, SameHonesty}
 use Rattle.fp_disk.specs.declared.disk.Disk.{Ghosts}
 use Rattle.fp_recovery.specs.Stands.{StandsFor}
-use Rattle.fp_group_commit.specs.Store.{StoreState, sealed_set}
+use Rattle.fp_slots.specs.Numbers.{VERSION}
+use Rattle.fp_slots.specs.declared.slots.Step.TheVariants.{Begin}
+use Rattle.fp_group_commit.specs.Store.{MayCompact, StoreState, sealed_set}
 use Rattle.fp_committer.specs.Works.{BreaksOff, Works}
 use Rattle.fp_committer.specs.declared.fault.CommitFault.{CommitFault}
 use Rattle.fp_committer.specs.declared.fault.CommitFault.TheVariants.{StoreFailed, Memory}
@@ -33,3 +35,13 @@ pub record Halts {D : Type 0} (disk : Ghosts D) (a b : StoreState D)
   pub works : BreaksOff disk a b
   pub cause : f ≡ StoreFailed → disk.faults a.disk < disk.faults b.disk
   pub memory : f ≡ Memory → (b.failed ≡ false) × (disk.faults b.disk ≡ disk.faults a.disk)
+
+-- a step is due: a compaction runs, or one may begin, where less than a quarter of a slot is left
+-- for batches, or the slot is older than all that is written
+abbrev pub IsDue : {D : Type 0} → StoreState D → Type 0
+IsDue s = (s.compaction.next ≢ Begin) ⊎ (MayCompact s
+    × ((s.room < s.store.start.limit / 2) ⊎ (s.compaction.version < VERSION)))
+
+-- memory was wanting for one to begin, and nothing changed
+abbrev pub BeginsNone : {D : Type 0} → StoreState D → StoreState D → Type 0
+BeginsNone a b = (a.compaction.next ≡ Begin) × (b ≡ a)

@@ -1,6 +1,7 @@
 //! Steps of a compaction: for room for a batch, one beside the batches, and to its end.
 
-ghost use Rattle.std.specs.Prelude.{◌≡◌, ◌⊎◌, ◌<◌, ◌≤◌, ◌+◌, ◌^◌, length, IfErr, OnOk};
+ghost use Rattle.std.specs.Prelude.{◌≡◌, ◌↔◌, ◌⊎◌, ◌<◌, ◌≤◌, ◌+◌, ◌^◌, length, IfErr, OnOk};
+ghost use Rattle.std.specs.Prelude.{IsTrue};
 ghost use Rattle.fp_disk.specs.Crashes.{EachCrash};
 ghost use Rattle.fp_record.specs.declared.batch.TheConstants.{MOST_EDITS};
 ghost use Rattle.fp_recovery.specs.Room.{IsFullFor};
@@ -9,8 +10,8 @@ ghost use Rattle.fp_slots.specs.declared.slots.Step.TheVariants.{Begin};
 ghost use Rattle.fp_group_commit.specs.Calls.{Compacts};
 ghost use Rattle.fp_group_commit.specs.Changes.{HasRoom};
 ghost use Rattle.fp_group_commit.specs.Store.{IsAtRest, MayCompact, sealed_set};
-ghost use Rattle.fp_committer.specs.Room.{Halts, Proceeds};
-ghost use Rattle.fp_committer.specs.declared.fault.CommitFault.TheVariants.{StoreFailed};
+ghost use Rattle.fp_committer.specs.Room.{BeginsNone, Halts, IsDue, Proceeds};
+ghost use Rattle.fp_committer.specs.declared.fault.CommitFault.TheVariants.{Memory, StoreFailed};
 
 use crate::fault::CommitFault;
 use fp_disk::Disk;
@@ -24,6 +25,7 @@ fn take_step<D: Disk>(store: &mut Store<D>) -> Result<(), CommitFault>
     ensures ok { OnOk result (Compacts D.faults store.old store.new) }
     ensures proceeds { OnOk result (Proceeds D.Disk store.old store.new) }
     ensures halts { IfErr result (Halts D.Disk store.old store.new) }
+    ensures memory { IfErr result (λ f. f ≡ Memory → BeginsNone store.old store.new) }
 {
     match store.compact_step() {
         Ok(_next) => Ok(()),
@@ -58,6 +60,17 @@ pub(crate) fn make_room<D: Disk>(store: &mut Store<D>, draw: &Draw) -> Result<()
     Ok(())
 }
 
+// Whether a step is due: a compaction runs, or one may begin, where less than a quarter of a slot
+// is left, or the slot is older than all that is written.
+fn is_due<D: Disk>(store: &Store<D>) -> bool
+    ensures { IsTrue result ↔ IsDue store.now }
+{
+    match store.step() {
+        Step::Begin => store.may_compact() && (store.is_short() || store.version() < VERSION),
+        _ => true,
+    }
+}
+
 /// Takes a step where a compaction runs, or begins one where less than a quarter of a slot is
 /// left, or the slot is older than all that is written.
 pub(crate) fn go_on<D: Disk>(store: &mut Store<D>) -> Result<(), CommitFault>
@@ -65,14 +78,14 @@ pub(crate) fn go_on<D: Disk>(store: &mut Store<D>) -> Result<(), CommitFault>
     requires keeps { EachCrash D.Disk store.old.disk (λ c. StandsFor c (sealed_set store.old)) }
     ensures proceeds { OnOk result (Proceeds D.Disk store.old store.new) }
     ensures halts { IfErr result (Halts D.Disk store.old store.new) }
+    ensures taken { OnOk result (IsDue store.old → Compacts D.faults store.old store.new) }
+    ensures none { OnOk result ((IsDue store.old → ⊥) → store.new ≡ store.old) }
+    ensures memory { IfErr result (λ f. f ≡ Memory → BeginsNone store.old store.new) }
 {
-    let is_due = match store.step() {
-        Step::Begin => store.is_short() || store.version() < VERSION,
-        _ => true,
-    };
-    if is_due && store.may_compact() {
-        take_step(store)?;
+    if !is_due(store) {
+        return Ok(());
     }
+    take_step(store)?;
     Ok(())
 }
 

@@ -5,7 +5,9 @@ ghost use Rattle.std.specs.Prelude.{◌≡◌, [], ◌∷◌, false, IfErr, OnEr
 ghost use Rattle.fp_disk.specs.History.{MakesSome};
 ghost use Rattle.fp_disk.specs.declared.history.CallKind.TheVariants.{Sync, Write};
 ghost use Rattle.fp_slots.specs.declared.slots.Step.TheVariants.{Begin};
+ghost use Rattle.fp_group_commit.specs.Calls.{Compacts};
 ghost use Rattle.fp_committer.specs.Course.{CallsOn, GoesWell, HasCause, FailsBy, Reaches};
+ghost use Rattle.fp_committer.specs.Room.{BeginsNone, IsDue};
 ghost use Rattle.fp_committer.specs.StoreHalf.{taken_by, way_by};
 ghost use Rattle.fp_committer.specs.Way.{CanStage, batch_drawn, batch_staged, batch_sealed};
 ghost use Rattle.fp_committer.specs.Way.{nothing_drawn};
@@ -129,6 +131,17 @@ impl<D: Disk> StoreHalf<D> {
         ensures cause { IfErr result (FailsBy D.Disk self.old.store self.new.store) }
         // `Err`: the calls were those of whole works, and some first ones of one more.
         ensures called { OnErr result (BreaksOff D.Disk self.old.store self.new.store) }
+        // `Ok`: the step was taken where one was due: where a compaction runs, or where one may
+        // begin, and less than a quarter of a slot is left for batches or the slot is older than
+        // all that is written.
+        ensures taken { OnOk result
+            (IsDue self.old.store → Compacts D.faults self.old.store self.new.store) }
+        // `Ok`: where none was due the store is as before.
+        ensures none { OnOk result
+            ((IsDue self.old.store → ⊥) → self.new.store ≡ self.old.store) }
+        // `Memory`: none ran, and the store is as before.
+        ensures memory { IfErr result
+            (λ f. f ≡ Memory → BeginsNone self.old.store self.new.store) }
     {
         let _ = &self.held;
         room::go_on(&mut self.store)

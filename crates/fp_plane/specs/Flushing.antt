@@ -1,8 +1,12 @@
 -- What a flusher gives back.
-use Rattle.std.specs.Prelude.{◌≡◌, ◌⊎◌, ◌<◌, false, OnErr, OnOk, Result}
+use Rattle.std.specs.Prelude.{◌≡◌, ◌≢◌, ◌⊎◌, ◌<◌, ℕ, false, OnErr, OnOk, Result}
 use Rattle.fp_disk.specs.Crashes.{AtAnyMoment}
 use Rattle.fp_disk.specs.declared.disk.Disk.{Ghosts}
+use Rattle.fp_slots.specs.declared.slots.Step.TheVariants.{Begin}
+use Rattle.fp_group_commit.specs.Calls.{Compacts}
+use Rattle.fp_group_commit.specs.Store.{StoreState}
 use Rattle.fp_committer.specs.Course.{Course, KeptThrough, LacksRoom}
+use Rattle.fp_committer.specs.Room.{IsDue}
 use Rattle.fp_committer.specs.StoreHalf.{StoreHalfState}
 use Rattle.fp_committer.specs.Way.{nothing_drawn}
 use Rattle.fp_plane.specs.declared.flushing.Broken.{Broken}
@@ -10,6 +14,13 @@ use Rattle.fp_plane.specs.declared.flushing.Broken.{Broken}
 -- nothing is drawn, and no call of the disk has failed
 abbrev pub IsResting : {D : Type 0} → StoreHalfState D → Type 0
 IsResting h = (h.progress ≡ nothing_drawn) × (h.store.failed ≡ false)
+
+-- A compaction that runs went on by its next step. Where one was to begin its first step was taken, or
+-- memory was wanting for it and nothing changed; and where none was due nothing changed
+pub record StepsWhereDue {D : Type 0} (faults : D → ℕ) (a b : StoreState D) : Type 0 where
+  pub runs : a.compaction.next ≢ Begin → Compacts faults a b
+  pub due : IsDue a → Compacts faults a b ⊎ (b ≡ a)
+  pub none : (IsDue a → ⊥) → b ≡ a
 
 -- It began with one half and ended with the other, by a course of batches, settlements and steps of
 -- compactions between them: whatever a crash leaves at any moment of it stands for some first edits

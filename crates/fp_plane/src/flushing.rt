@@ -6,7 +6,7 @@ ghost use Rattle.fp_edit.specs.Edits.{proposal_of};
 ghost use Rattle.fp_committer.specs.Course.{Course, LacksRoom, ListsOn};
 ghost use Rattle.fp_committer.specs.StoreHalf.{StoreHalfState};
 ghost use Rattle.fp_committer.specs.Way.{batch_drawn, batch_sealed, nothing_drawn};
-ghost use Rattle.fp_plane.specs.Flushing.{Flushes, IsResting};
+ghost use Rattle.fp_plane.specs.Flushing.{Flushes, IsResting, StepsWhereDue};
 ghost use Rattle.fp_plane.specs.Hall.{IsStoreOf};
 ghost use Rattle.fp_plane.specs.declared.flushing.Lull.TheVariants.{Alone};
 
@@ -206,6 +206,7 @@ where
     ensures no_failure { OnOk result
         (D.faults half.new.store.disk ≡ D.faults half.old.store.disk) }
     ensures cause { OnErr result (D.faults half.old.store.disk < D.faults half.new.store.disk) }
+    ensures step { OnOk result (StepsWhereDue D.faults half.old.store half.new.store) }
 {
     let before = Seen::of(half.store());
     compact_on(half)?;
@@ -221,6 +222,7 @@ fn compact_on<D: Disk>(half: &mut StoreHalf<D>) -> Result<(), Broken>
     ensures no_failure { OnOk result
         (D.faults half.new.store.disk ≡ D.faults half.old.store.disk) }
     ensures cause { OnErr result (D.faults half.old.store.disk < D.faults half.new.store.disk) }
+    ensures step { OnOk result (StepsWhereDue D.faults half.old.store half.new.store) }
 {
     match half.go_on() {
         Ok(()) => Ok(()),

@@ -40,3 +40,10 @@ returns-in-Err-Memory-clause-halts g c =
             ap (λ (x : StoreState g.row.D.Denot). D.faults x.disk) why.2,
           ));
     }
+
+pub returns-in-Err-Memory-clause-memory : goal.returns-in-Err-Memory-clause-memory
+returns-in-Err-Memory-clause-memory g c = λ is.
+    let D = g.D.Disk in let a = c.args.store.now in let b = c.compact_step.new.self in
+    let why : StopsBy D.faults a b fault.Memory =
+    subst (λ (f : StoreFault). StopsBy D.faults a b f) c.in-Err-Memory.field-0-is c.in-Err-Memory.ensures.fault in
+    (why.1, why.2)
