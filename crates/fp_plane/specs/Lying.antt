@@ -9,12 +9,13 @@ use Rattle.fp_group_commit.specs.Tokens.{Identity}
 use Rattle.fp_plane.specs.Flushing.{IsResting}
 use Rattle.fp_plane.specs.Hall.{IsStoreOf}
 
--- what who takes its lock finds: the half, whether sealing broke off, and whether whoever was told
--- last was alone
+-- what who takes its lock finds: the half, whether sealing broke off, whether whoever was told last
+-- was alone, and whether an editor owes a step of a compaction behind its batch
 pub record LyingState (D : Type 0) : Type 0 where
   pub half : StoreHalfState D
   pub broken : Bool
   pub alone : Bool
+  pub owes_step : Bool
 
 -- The half is the plane's, and came by a course from the one half that the list has: nothing of it
 -- is drawn and no call of the disk failed since, or sealing broke off, for one of the two reasons

@@ -1,9 +1,10 @@
 //! The store's half of a plane where nobody seals, and who seals by it.
 
 ghost use Rattle.std.specs.Prelude.{◌≡◌, ◌∷◌, [], true, false, is_err, IfOk, IfErr, IfNone, IfSome};
+ghost use Rattle.std.specs.Prelude.{OnOk};
 ghost use Rattle.fp_edit.specs.Edits.{proposal_of};
 ghost use Rattle.fp_committer.specs.StoreHalf.{StoreHalfState};
-ghost use Rattle.fp_plane.specs.Flushing.{Flushes, IsResting};
+ghost use Rattle.fp_plane.specs.Flushing.{Flushes, IsResting, StepsWhereDue};
 ghost use Rattle.fp_plane.specs.Hall.{IsStoreOf};
 
 use crate::flushing::{Broken, Flushed, Lull, flush_while_busy, submit_and_flush, take_step};
@@ -53,7 +54,12 @@ impl<K: Naming, D: Disk + Drop> Model for Lying<K, D> {
 
     ghost coded = { Prim.hlevel (codes, coded_state, coded_change) };
 
-    ghost view = { λ l. record { half = l.half; broken = l.broken; alone = l.gathering.alone } };
+    ghost view = { λ l. record {
+      half = l.half;
+      broken = l.broken;
+      alone = l.gathering.alone;
+      owes_step = l.owes_step;
+    } };
 
     ghost invariant = { λ l. (l.began.name ≡ K.beginning)
         × IsLeft D.Disk K.store K.desk_lists K.store_lists l.half l.broken l.began.log };
@@ -80,7 +86,8 @@ impl<K: Naming, D: Disk + Drop> Lying<K, D> {
         requires rest { IsResting half }
         requires named { began.name ≡ K.beginning }
         requires fresh { began.log ≡ [] }
-        ensures lies { result.0 ≡ record { half = half; broken = false; alone = true } }
+        ensures lies { result.0
+            ≡ record { half = half; broken = false; alone = true; owes_step = false } }
         ensures named { result.1.name ≡ K.beginning }
         ensures began { result.1.log ≡ half ∷ [] }
     {
@@ -109,6 +116,9 @@ impl<K: Naming, D: Disk + Drop> Lying<K, D> {
         ensures given_back { IfErr result (λ e. e.1 ≡ edit) }
         ensures others { self.old.alone ≡ false → self.new ≡ self.old }
         ensures broken { self.old.broken ≡ true → self.new ≡ self.old }
+        // An editor that sealed owes a step.
+        ensures owes { OnOk result (self.old.alone ≡ true → self.old.broken ≡ false
+            → self.new.owes_step ≡ true) }
     {
         if self.broken || !self.gathering.is_alone() {
             return plane.submit(edit);
@@ -130,6 +140,12 @@ impl<K: Naming, D: Disk + Drop> Lying<K, D> {
         R: Wait + Clock + Log + Drop,
         ensures broken { self.old.broken ≡ true → self.new ≡ self.old }
         ensures rest { self.new.alone ≡ self.old.alone }
+        // The step that is owed is taken where it is due, or taking it broke sealing off.
+        ensures step { self.old.broken ≡ false → self.old.owes_step ≡ true
+            → self.new.broken ≡ false
+            → StepsWhereDue D.faults self.old.half.store self.new.half.store }
+        // None is owed then.
+        ensures paid { self.old.broken ≡ false → self.new.owes_step ≡ false }
     {
         if self.broken || !self.owes_step {
             return;
