@@ -1,13 +1,13 @@
--- Text in pieces: what passes ASCII sixteen bytes at a time, and where a text may be cut.
+-- Text in pieces: what passes ASCII many bytes at a time, and where a text may be cut.
 use Rattle.std.proofs.Common.{◌≡◌, ◌<◌, ◌≤◌, ◌+◌, ◌-◌, ◌*◌, ◌%◌, ◌^◌, nat_le, nat_lt, ℕ, Bool, true, false, not, cond, suc, List, [], ◌∷◌}
 use Rattle.std.proofs.Common.{length, map, replicate, take, drop, get_or, bit_or, inl, inr, ◌⊎◌, refl, sym, ap, ap₂, subst, ◌∙◌, arith}
 use Rattle.std.proofs.Common.{Result, Ok, Err, true≢false}
 use Rattle.std.proofs.Math.Seq.{take-add}
-use Rattle.std.proofs.lemmas.Bool.{cases_lt, leb-false, ltb-true, not-false}
+use Rattle.std.proofs.lemmas.Bool.{cases_lt, leb-false, ltb-true, not-false, not-true}
 use Rattle.std.proofs.lemmas.List.{get_or-drop, get_or-take, get_or_past, length-map, length-take}
-use Rattle.std.proofs.lemmas.List.Sums.{prefix_len_stops}
-use Rattle.std.proofs.lemmas.Nat.{le_or_l}
-use Rattle.std.proofs.lemmas.Simd.{get_or-chunk, get_or-zip2, length-chunk, length-zip2, mask_l-mod}
+use Rattle.std.proofs.lemmas.List.Sums.{prefix_len_passes, prefix_len_stops}
+use Rattle.std.proofs.lemmas.Nat.{le_or_l, le_or_r}
+use Rattle.std.proofs.lemmas.Simd.{get_or-chunk, get_or-zip2, leading_from_mask_l, length-chunk, length-zip2, mask_l-mod}
 use Rattle.std.proofs.lemmas.Simd.{run_in_chunk_fails, run_in_chunk_le, trailing_mask_l}
 use Rattle.std.proofs.lemmas.Str.{IsCharBoundary-before_ascii, IsCharBoundary-end, IsCharBoundary-from_take}
 use Rattle.std.proofs.lemmas.Str.{IsUtf8-append, IsUtf8-between, IsUtf8-from_ascii}
@@ -102,6 +102,70 @@ ascii_found bytes behind end n room long_b few some =
 
 pub length-either : (xs ys : List ℕ) (n : ℕ) → length xs ≡ n → length ys ≡ n → length (zip2 bit_or xs ys) ≡ n
 length-either xs ys n p q = length-zip2 bit_or xs ys (p ∙ sym q) ∙ p
+
+-- ---- ASCII bytes in four vectors at once
+
+ascii_joined : (bytes : List ℕ) (from mid next stop end : ℕ) → next ≤ mid → end ≤ stop → Ascii bytes from mid → Ascii bytes next stop →
+    Ascii bytes from end
+ascii_joined bytes from mid next stop end meet far before behind k on l = go (cases_lt k mid)
+  where
+    go : (k < mid) ⊎ (mid ≤ k) → get_or bytes k 0 < 128
+    go (inl under) = before k on under
+    go (inr over) = behind k (omega (arith, meet, over)) (omega (arith, far, l))
+
+-- where no bit is set
+ascii_lanes : (v : List ℕ) → mask_l (map (nat_le 128) v) ≡ 0 → Ascii v 0 (length v)
+ascii_lanes v none k on l =
+    let passed = prefix_len_passes (λ x. not (nat_le 128 x)) v k 0 (omega (arith, l, leading_from_mask_l (nat_le 128) v none)) in
+    leb-false 128 (get_or v k 0) (not-true _ passed)
+
+-- where the or of two is ASCII, both are
+ascii_each : (xs ys : List ℕ) (n : ℕ) → length xs ≡ n → length ys ≡ n → Ascii (zip2 bit_or xs ys) 0 n → Ascii xs 0 n × Ascii ys 0 n
+ascii_each xs ys n long_x long_y low = (
+  λ k on l. omega (arith, low k on l, lane k l, le_or_l (get_or xs k 0) (get_or ys k 0)),
+  λ k on l. omega (arith, low k on l, lane k l, le_or_r (get_or xs k 0) (get_or ys k 0)),
+)
+  where
+    lane : (k : ℕ) → k < n → get_or (zip2 bit_or xs ys) k 0 ≡ bit_or (get_or xs k 0) (get_or ys k 0)
+    lane k l = get_or-zip2 bit_or xs ys k 0 0 0 (omega (arith, l, long_x)) (omega (arith, l, long_y))
+
+ascii_chunk : (bytes : List ℕ) (from n : ℕ) → Ascii (chunk from n bytes) 0 n → Ascii bytes from (from + n)
+ascii_chunk bytes from n low k on l =
+    let back : from + (k - from) ≡ k = omega (arith, on) in
+    let inside : k - from < n = omega (arith, on, l) in
+    let here = get_or-chunk from n bytes (k - from) 0 inside ∙ ap (λ j. get_or bytes j 0) back in
+    subst (λ b. b < 128) here (low (k - from) (omega arith) inside)
+
+abbrev pub two_at : List ℕ → ℕ → ℕ → List ℕ
+two_at bytes i j = zip2 bit_or (chunk i 16 bytes) (chunk j 16 bytes)
+
+length-two_at : (bytes : List ℕ) (i j : ℕ) → i + 16 ≤ length bytes → j + 16 ≤ length bytes → length (two_at bytes i j) ≡ 16
+length-two_at bytes i j room_i room_j =
+    length-either (chunk i 16 bytes) (chunk j 16 bytes) 16 (length-chunk i 16 bytes room_i) (length-chunk j 16 bytes room_j)
+
+ascii_two : (bytes : List ℕ) (i j : ℕ) → i + 16 ≤ length bytes → j + 16 ≤ length bytes → Ascii (two_at bytes i j) 0 16 →
+    Ascii bytes i (i + 16) × Ascii bytes j (j + 16)
+ascii_two bytes i j room_i room_j low =
+    let each = ascii_each (chunk i 16 bytes) (chunk j 16 bytes) 16 (length-chunk i 16 bytes room_i) (length-chunk j 16 bytes room_j) low in
+    (ascii_chunk bytes i 16 each.0, ascii_chunk bytes j 16 each.1)
+
+pub ascii_four : (bytes : List ℕ) (from end : ℕ) → end + 64 ≤ length bytes → Ascii bytes from end →
+    mask_l (map (nat_le 128) (zip2 bit_or (two_at bytes end (end + 16)) (two_at bytes (end + 32) (end + 48)))) ≡ 0 →
+    Ascii bytes from (end + 64)
+ascii_four bytes from end room before none =
+    let front = two_at bytes end (end + 16) in
+    let back = two_at bytes (end + 32) (end + 48) in
+    let long_f = length-two_at bytes end (end + 16) (omega (arith, room)) (omega (arith, room)) in
+    let long_b = length-two_at bytes (end + 32) (end + 48) (omega (arith, room)) (omega (arith, room)) in
+    let all = zip2 bit_or front back in
+    let low = subst (Ascii all 0) (length-either front back 16 long_f long_b) (ascii_lanes all none) in
+    let each = ascii_each front back 16 long_f long_b low in
+    let one = ascii_two bytes end (end + 16) (omega (arith, room)) (omega (arith, room)) each.0 in
+    let two = ascii_two bytes (end + 32) (end + 48) (omega (arith, room)) (omega (arith, room)) each.1 in
+    let first = ascii_joined bytes from end end (end + 16) (end + 16) (omega arith) (omega arith) before one.0 in
+    let second = ascii_joined bytes from (end + 16) (end + 16) (end + 16 + 16) (end + 32) (omega arith) (omega arith) first one.1 in
+    let third = ascii_joined bytes from (end + 32) (end + 32) (end + 32 + 16) (end + 48) (omega arith) (omega arith) second two.0 in
+    ascii_joined bytes from (end + 48) (end + 48) (end + 48 + 16) (end + 64) (omega arith) (omega arith) third two.1
 
 -- ---- a text, piece by piece
 

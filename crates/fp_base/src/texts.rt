@@ -15,18 +15,11 @@ use crate::walks::is_longer;
 use serde_json::Value;
 use std::alloc::{AllocError, Global};
 
-// From so many bytes on, a text is tested 64 bytes at a time: that is sooner done where all are
-// ASCII, and later where some aren't.
-const LONG: usize = 4_096;
-
 /// The text that the bytes are, `None` exactly where they aren't UTF-8.
 pub fn utf8_text(bytes: &[u8]) -> Option<&str>
     ensures { MatchOption result (¬ (IsUtf8 bytes.now)) (λ text.
         (text.now ≡ bytes.now) × IsUtf8 bytes.now) }
 {
-    if bytes.len() >= LONG {
-        return simdutf8::basic::from_utf8(bytes).ok();
-    }
     if !is_utf8(bytes) {
         return None;
     }

@@ -10,6 +10,9 @@ use std::simd::prelude::*;
 // So many bytes are looked at together.
 const TOGETHER: usize = 16;
 
+// Four times as many, in one test.
+const MANY: usize = 64;
+
 // Whether the bytes are UTF-8. ASCII is passed, and only what stands between is tested.
 pub(crate) fn is_utf8(bytes: &[u8]) -> bool
     ensures text { result ≡ true → IsUtf8 bytes.now }
@@ -33,7 +36,7 @@ fn ascii_end(bytes: &[u8], from: usize) -> usize
     ensures within { (from ≤ result) × (result ≤ length bytes.now) }
     ensures ascii { (k : ℕ) → from ≤ k → k < result → get_or bytes.now k 0 < 128 }
 {
-    let mut end = from;
+    let mut end = many_ascii_end(bytes, from);
     while bytes.len() - end >= TOGETHER {
         let found = foreign_among(u8x16::from_slice(&bytes[end..]));
         if found != 0 {
@@ -43,6 +46,27 @@ fn ascii_end(bytes: &[u8], from: usize) -> usize
     }
     while end < bytes.len() && bytes[end] < 0x80 {
         end += 1;
+    }
+    end
+}
+
+// Where the ASCII ends that is passed many bytes at once; more may stand behind it.
+#[inline(always)]
+fn many_ascii_end(bytes: &[u8], from: usize) -> usize
+    requires { from ≤ length bytes.now }
+    ensures within { (from ≤ result) × (result ≤ length bytes.now) }
+    ensures ascii { (k : ℕ) → from ≤ k → k < result → get_or bytes.now k 0 < 128 }
+{
+    let mut end = from;
+    while bytes.len() - end >= MANY {
+        let first = u8x16::from_slice(&bytes[end..]);
+        let second = u8x16::from_slice(&bytes[end + TOGETHER..]);
+        let third = u8x16::from_slice(&bytes[end + 2 * TOGETHER..]);
+        let fourth = u8x16::from_slice(&bytes[end + 3 * TOGETHER..]);
+        if foreign_among((first | second) | (third | fourth)) != 0 {
+            return end;
+        }
+        end += MANY;
     }
     end
 }
