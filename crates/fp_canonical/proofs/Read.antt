@@ -91,22 +91,33 @@ is_later (n ∷ ms) m = refl
 
 -- ---- a loop over members
 
--- what is read of the rest is read, behind those found, of all
+-- what is read of the rest is read, behind those in front, of all
+abbrev pub AreReadBehind : ℕ → Bool → (Members → Members) → List ℕ → List ℕ → Type 0
+AreReadBehind limit later front all rest =
+    (more : Members) (left : List ℕ) → ReadsMembers limit later more rest left → ReadsMembers limit false (front more) all left
+
+-- with one more in front
+pub read-behind : (limit : ℕ) (ms : List Entry) (front after : Members → Members) (all one two three : List ℕ) (m : Entry) (d : Data)
+    (new : List Entry) → AreReadBehind limit (is_some_there ms) front all one → new ≡ ms ++ m ∷ [] →
+    ((more : Members) → after more ≡ front (member m.0.now d more)) →
+    one ≡ comma_if (is_some_there ms) ++ (quoted m.0.now ++ 58 ∷ two) → Reads limit d two three →
+    AreReadBehind limit (is_some_there new) after all three
+read-behind limit ms front after all one two three m d new so_far pushed on named read more left rest =
+    subst (λ xs. ReadsMembers limit false xs all left) (sym (on more))
+    (so_far (member m.0.now d more) left
+    (member-read limit (is_some_there ms) m.0.now d more one two three left named read
+    (subst (λ b. ReadsMembers limit b more three left) (ap is_some_there pushed ∙ is_later ms m) rest)))
+
 abbrev pub AreReadSoFar : ℕ → List Entry → List ℕ → List ℕ → Type 0
-AreReadSoFar limit ms all rest =
-    (more : Members) (left : List ℕ) → ReadsMembers limit (is_some_there ms) more rest left →
-    ReadsMembers limit false (members_before ms more) all left
+AreReadSoFar limit ms all rest = AreReadBehind limit (is_some_there ms) (members_before ms) all rest
 
 module _ (limit : ℕ) (ms : List Entry) (all one : List ℕ) (so_far : AreReadSoFar limit ms all one) where
   pub read-on : (m : Entry) (two three : List ℕ) (new : List Entry) → new ≡ ms ++ m ∷ [] →
       one ≡ comma_if (is_some_there ms) ++ (quoted m.0.now ++ 58 ∷ two) → Reads limit (tree_view m.1) two three →
       AreReadSoFar limit new all three
-  read-on m two three new pushed named read more left rest =
-      subst (λ xs. ReadsMembers limit false xs all left)
-      (sym (ap (λ es. members_before es more) pushed ∙ members-more ms m more))
-      (so_far (member m.0.now (tree_view m.1) more) left
-      (member-read limit (is_some_there ms) m.0.now (tree_view m.1) more one two three left named read
-      (subst (λ b. ReadsMembers limit b more three left) (ap is_some_there pushed ∙ is_later ms m) rest)))
+  read-on m two three new pushed named read =
+      read-behind limit ms (members_before ms) (members_before new) all one two three m (tree_view m.1) new so_far pushed
+      (λ more. ap (λ es. members_before es more) pushed ∙ members-more ms m more) named read
 
   pub read-end : (left : List ℕ) → one ≡ 125 ∷ left → ReadsMembers limit false (tree_members ms) all left
   read-end left end = subst (λ xs. ReadsMembers limit false xs all left) (members-all ms)

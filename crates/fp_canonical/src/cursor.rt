@@ -60,6 +60,24 @@ impl<'a> Cursor<'a> {
         true
     }
 
+    /// Goes past a text, if it comes next with ASCII behind it.
+    pub fn take_text(&mut self, text: &[u8]) -> bool
+        // `true`: it came next.
+        ensures taken { result ≡ true → self.old ≡ text.now ++ self.new }
+        // `false`: nothing is changed.
+        ensures kept { result ≡ false → self.new ≡ self.old }
+    {
+        let whole = self.rest;
+        let Some(behind) = whole.as_bytes().strip_prefix(text) else {
+            return false;
+        };
+        if behind.is_empty() || behind[0] >= 0x80 {
+            return false;
+        }
+        self.rest = &whole[text.len()..];
+        true
+    }
+
     // Goes past a word, if it comes next.
     #[inline(always)]
     pub(crate) fn take_word(&mut self, word: &str) -> bool

@@ -27,6 +27,7 @@ use fp_operators::Datum;
 use serde_json::Value;
 use std::alloc::{AllocError, AllocFailed, Global};
 use std::marker::Model;
+use std::sync::Arc;
 
 /// Lists and objects of a rule stand in one another at most this deep.
 pub const DEEPEST_RULE: u32 = 32;
@@ -34,15 +35,15 @@ pub const DEEPEST_RULE: u32 = 32;
 /// The most JSON values that a rule has, its literals' insides and its operators' objects included.
 pub const MOST_RULE_VALUES: usize = 1_024;
 
-/// A compiled rule. Its code, run on any data, wants no operand that isn't there, skips to nowhere
-/// outside and has room for what it keeps: that is the type's invariant.
+/// A share of a compiled rule. Its code, run on any data, wants no operand that isn't there, skips
+/// to nowhere outside and has room for what it keeps: that is the type's invariant.
 #[derive(Drop)]
 pub struct Rule {
-    code: Code,
+    code: Arc<Code, Global>,
 }
 
 impl Model for Rule {
-    ghost use Rattle.std.specs.Prelude.{true, ◌≡◌};
+    ghost use Rattle.std.specs.Arc.{arc_value};
     ghost use Rattle.fp_machine.specs.Rule as rules;
     ghost use Rattle.fp_machine.specs.Codes.{coded_rule};
     ghost use Rattle.fp_machine.specs.Sound.{IsSound};
@@ -52,9 +53,9 @@ impl Model for Rule {
 
     ghost coded = { coded_rule };
 
-    ghost view = { λ r. rule_of_code r.code };
+    ghost view = { λ r. rule_of_code (arc_value r.code) };
 
-    ghost invariant = { λ r. IsSound r.code };
+    ghost invariant = { λ r. IsSound (arc_value r.code) };
 }
 
 /// Why a value is no rule, in the order in which the faults are looked for.
@@ -125,9 +126,20 @@ impl Rule {
         };
         let values = MOST_RULE_VALUES.saturating_sub(left);
         match code_of(alloc, tree, values)? {
-            Some(code) => Ok(Rule { code }),
+            Some(code) => {
+                let share = Arc::new(alloc, code)?;
+                Ok(Rule { code: share })
+            }
             None => Err(refusal(alloc, tree)),
         }
+    }
+
+    /// An equal rule, which is another share of the same: nothing is compiled again.
+    pub fn try_copy(&self) -> Result<Rule, AllocError>
+        ensures { IfOk result (λ r. r ≡ self.now) }
+    {
+        let code = Arc::try_clone(&self.code)?;
+        Ok(Rule { code })
     }
 
     /// What the rule gives for the data, lent where it stands in the rule or in the data.

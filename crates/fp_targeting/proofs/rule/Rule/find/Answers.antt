@@ -1,5 +1,6 @@
-use Rattle.std.proofs.Common.{◌≡◌, IfErr, sym, ap, ◌∙◌, subst, true}
+use Rattle.std.proofs.Common.{◌≡◌, sym, ap, ◌∙◌, subst, true}
 use Rattle.std.proofs.lemmas.Result.{IfOk-weaker}
+use Rattle.std.specs.Result.{OnErr}
 use Rattle.fp_machine.specs.Found.{found_view}
 use Rattle.fp_machine.specs.Memory.{needs_memory}
 use Rattle.fp_machine.specs.Means.{Means}
@@ -14,15 +15,18 @@ returns-clause-means c =
     let r = c.args.self.now in
     let d = c.args.data.now in
     let formed : well_formed r ≡ true = ap well_formed (sym c.self.view_is) ∙ c.self.invariant.formed in
-    let made = ap (λ e. meaning e (rule_of_code c.self.inside.code)) c.datum.ensures ∙ ap (meaning d) c.self.view_is in
+    let is = ap (λ e. meaning e (rule_of_code c.deref.result.now)) c.datum.ensures
+    ∙ ap (meaning d) (ap rule_of_code c.deref.ensures ∙ c.self.view_is) in
     IfOk-weaker c.run.result _ (λ x. Means r d (found_view x))
-    (λ x e. subst (λ y. Means r d y) (sym (e ∙ made)) (Means-exists d r formed)) c.run.ensures.means
+    (λ x e. subst (λ y. Means r d y) (sym (e ∙ is)) (Means-exists d r formed)) c.run.ensures.means
 
 pub returns-clause-computed : goal.returns-clause-computed
 returns-clause-computed c =
-    let made = ap (λ e. meaning e (rule_of_code c.self.inside.code)) c.datum.ensures ∙ ap (meaning c.args.data.now) c.self.view_is in
-    IfOk-weaker c.run.result _ (λ x. found_view x ≡ meaning c.args.data.now c.args.self.now) (λ x e. e ∙ made) c.run.ensures.means
+    let is = ap (λ e. meaning e (rule_of_code c.deref.result.now)) c.datum.ensures
+    ∙ ap (meaning c.args.data.now) (ap rule_of_code c.deref.ensures ∙ c.self.view_is) in
+    IfOk-weaker c.run.result _ (λ x. found_view x ≡ meaning c.args.data.now c.args.self.now) (λ x e. e ∙ is) c.run.ensures.means
 
 pub returns-clause-memory : goal.returns-clause-memory
 returns-clause-memory c =
-    subst (λ r. IfErr c.run.result (λ e. needs_memory r ≡ true)) c.self.view_is c.run.ensures.memory
+    subst (λ r. OnErr c.run.result (needs_memory r ≡ true))
+    (ap rule_of_code c.deref.ensures ∙ c.self.view_is) c.run.ensures.memory
