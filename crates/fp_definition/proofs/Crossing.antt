@@ -2,7 +2,6 @@
 use denote.Param.Send.{IsSend, IsSync, sendable, view_send, view_sync, recorded_send, recorded_sync, struct_send, struct_sync}
 use denote.Struct.Declared.{shape}
 use Rattle.std.proofs.Crossing.{crosses, Arc-send, Arc-sync}
-use Rattle.std.proofs.MapsCrossing as maps
 use Rattle.fp_targeting.proofs.Crossing.{rule_sent, rule_shared}
 use Rattle.fp_definition.specs.contracts.choice.Choice as choice
 use Rattle.fp_definition.specs.contracts.definition.Definition as definition
@@ -11,11 +10,11 @@ use Rattle.fp_definition.specs.contracts.definition.Kept as kept
 use Rattle.fp_definition.specs.contracts.spelling.Variant as variant
 
 variant_sent : IsSend (variant.the_field).row
-variant_sent = struct_send (shape variant.the_type) (search (sendable, crosses, maps.String-send) depth 20, (search sendable depth 10, tt))
+variant_sent = struct_send (shape variant.the_type) (search (sendable, crosses) depth 20, (search sendable depth 10, tt))
 
 variant_shared : IsSync (variant.the_field).row
 variant_shared = struct_sync (shape variant.the_type)
-    (search (sendable, crosses, maps.String-sync) depth 20, (search sendable depth 10, tt))
+    (search (sendable, crosses) depth 20, (search sendable depth 10, tt))
 
 choice_sent : IsSend (choice.the_field).row
 choice_sent = struct_send (shape choice.the_type) (

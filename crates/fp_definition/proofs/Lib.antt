@@ -1,4 +1,5 @@
 pub mod Canonical
+pub mod Beside
 pub mod Crossing
 pub mod OneOutcome
 pub mod Parted

@@ -1,30 +1,34 @@
 -- Which texts are no definition's.
-use Rattle.std.proofs.Common.{◌≡◌, ◌≤◌, ◌<◌, ℕ, List, [], length, Bool, true, false, Option, Some}
+use Rattle.std.proofs.Common.{◌≡◌, ◌≤◌, ◌<◌, ◌-◌, ℕ, List, [], ◌∷◌, length, codes, unwrap_or, Bool, true, false, Option, Some}
 use Rattle.std.proofs.Common.{None, option_map, refl, sym, ap, subst, ◌∙◌, arith, append-nil}
-use Rattle.std.proofs.lemmas.Bool.{and_parts, leb-true}
+use Rattle.std.proofs.lemmas.Bool.{and_parts, le-leb, leb-true}
 use Rattle.std.proofs.lemmas.Slice.Eq.{bytes_eq-Decides}
 use Rattle.std.specs.Prelude.{if◌then◌else◌, is_none, is_some, nat_le, option_and_then, bytes_eq}
 use Rattle.std.specs.Str.{is_utf8}
 use Rattle.json.specs.Json as json
 use Rattle.json.specs.Lex.{tokens}
-use Rattle.serde_json.specs.Data.{Data, null, boolean, number, string, array, object, depth, put}
+use Rattle.serde_json.specs.Data.{Data, null, boolean, number, string, array, object, depth, members_depth, put}
 use Rattle.serde_json.specs.Data.{Items, no_items, item, Members, no_members}
-use Rattle.serde_json.specs.Find.{as_object}
+use Rattle.serde_json.specs.Find.{as_object, get}
 use Rattle.serde_json.specs.Read.{max_depth, number_of, of_json, of_items, of_members, read}
 use Rattle.serde_json.specs.Written.{compact_text}
 use Rattle.fp_base.specs.Json.{json_of}
 use Rattle.fp_base.specs.Ordered.{IsOrdered, AreOrdered, MembersAreOrdered}
 use Rattle.fp_base.specs.Sorted.{IsSorted}
+use Rattle.fp_base.specs.Tests.{first_failed}
 use Rattle.fp_base.specs.Whole.{is_whole}
+use Rattle.fp_base.proofs.Inside.{inside, ordered_get}
 use Rattle.fp_base.proofs.Read.{ordered-put}
 use Rattle.fp_base.proofs.Sorted.{sorted-put}
+use Rattle.fp_base.proofs.WholeData.{whole-get}
 use Rattle.fp_canonical.specs.Reads.{Reads}
 use Rattle.fp_canonical.proofs.Digits.{read_written}
 use Rattle.fp_definition.specs.Numbers.{DEEPEST_DEFINITION, LONGEST_DEFINITION}
+use Rattle.fp_definition.specs.Resolving.{data_of}
 use Rattle.fp_definition.specs.Valid.{Fault, too_deep, too_large, whole_numbers_only, first_fault}
-use Rattle.fp_definition.specs.Valid.{IsValid}
+use Rattle.fp_definition.specs.Valid.{IsValid, is_definition_text, member_tests, targeting_tests}
 use Rattle.fp_definition.specs.Valid.{definition_in, is_text_of, is_text_of_some}
-use Rattle.fp_definition.proofs.Said.{meets_tests}
+use Rattle.fp_definition.proofs.Said.{choice_passed, meets_tests, passed}
 
 -- ---- what is read is in order
 
@@ -35,7 +39,7 @@ then_is : {A B : Type 0} (f : A → Option B) (o : Option A) (b : B) → option_
 then_is f None b h = absurd (cc)
 then_is f (Some a) b h = (a, refl, h)
 
-map_is : {A B : Type 0} (f : A → B) (o : Option A) (b : B) → option_map f o ≡ Some b → (a : A) × (o ≡ Some a) × (f a ≡ b)
+pub map_is : {A B : Type 0} (f : A → B) (o : Option A) (b : B) → option_map f o ≡ Some b → (a : A) × (o ≡ Some a) × (f a ≡ b)
 map_is f None b h = absurd (cc)
 map_is f (Some a) b h = (a, refl, some_same (f a) b h)
 
@@ -145,3 +149,51 @@ not_read text none = nothing_in text (λ d reads valid same.
       whole = s.whole;
       flat = s.flat;
     }))
+
+-- ---- what a definition's text says
+
+pub defined : (text : List ℕ) → is_definition_text text ≡ true → (json_of text ≡ Some (data_of text)) × IsValid (data_of text)
+defined text h = by (json_of text) refl h
+  where
+    by : (o : Option Data) → json_of text ≡ o → is_text_of_some text o ≡ true →
+        (json_of text ≡ Some (data_of text)) × IsValid (data_of text)
+    by None e h = absurd (cc)
+    by (Some d) e h =
+        let same : data_of text ≡ d = ap (λ o. unwrap_or o null) e in
+        (e ∙ ap Some (sym same), subst IsValid (sym same) (text_is text d h).0)
+
+module _ (text : List ℕ) (canonical : is_definition_text text ≡ true) where
+  -- its `targeting` can be read within another definition
+  pub targeting_sound : (d : Data) → get (codes "targeting") (data_of text) ≡ Some d →
+      IsOrdered d × (is_whole d ≡ true) × (depth d ≤ DEEPEST_DEFINITION - 1)
+  targeting_sound d is =
+      let it = defined text canonical in
+      let s = sizes (data_of text) it.1 in (
+        ordered_get (codes "targeting") (data_of text) d (json_ordered text (data_of text) it.0) is,
+        whole-get (codes "targeting") (data_of text) d s.whole is,
+        inside (λ x. depth x ≤ DEEPEST_DEFINITION - 1) (λ ms. members_depth ms ≤ DEEPEST_DEFINITION - 1)
+            (λ l x ms all. (omega (arith, all), omega (arith, all))) (codes "targeting") (data_of text) d
+            (λ ms same. let deep : depth (object ms) ≤ DEEPEST_DEFINITION = subst (λ x. depth x ≤ DEEPEST_DEFINITION) same s.flat in
+            omega (arith, deep)) is,
+      )
+
+  -- and meets its tests
+  pub targeting_met : first_failed (targeting_tests (get (codes "targeting") (data_of text))) ≡ None
+  targeting_met =
+      let valid = (defined text canonical).1 in
+      let one = step (nat_le (depth (data_of text)) DEEPEST_DEFINITION) too_deep _ valid in
+      let two = step (is_whole (data_of text)) whole_numbers_only _ one.1 in
+      let three = step (nat_le (length (compact_text (data_of text))) LONGEST_DEFINITION) too_large _ two.1 in
+      let behind = targeting_tests (get (codes "targeting") (data_of text)) in
+      sym (choice_passed (data_of text) behind (meets_tests (data_of text) three.1)) ∙ three.1
+
+-- data within the limits of size have the first fault of their members
+pub sized : (d : Data) → depth d ≤ DEEPEST_DEFINITION → is_whole d ≡ true → length (compact_text d) ≤ LONGEST_DEFINITION →
+    first_fault d ≡ first_failed (member_tests d)
+sized d flat whole short =
+    let third = (nat_le (length (compact_text d)) LONGEST_DEFINITION, too_large) ∷ member_tests d in
+    passed (nat_le (depth d) DEEPEST_DEFINITION) too_deep ((is_whole d, whole_numbers_only) ∷ third)
+    (le-leb (depth d) DEEPEST_DEFINITION flat)
+    ∙ passed (is_whole d) whole_numbers_only third whole
+    ∙ passed (nat_le (length (compact_text d)) LONGEST_DEFINITION) too_large (member_tests d)
+    (le-leb (length (compact_text d)) LONGEST_DEFINITION short)

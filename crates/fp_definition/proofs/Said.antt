@@ -25,13 +25,14 @@ use Rattle.fp_definition.specs.Resolving.{is_disabled, outcome_spelled, said_or_
 use Rattle.fp_definition.specs.Spelled.{AreAt, AreNoted, IsAt, texts}
 use Rattle.fp_definition.specs.Targeting.{rule_in}
 use Rattle.fp_definition.specs.Valid.{Fault, not_object, bad_state, bad_variants, bad_default, bad_metadata}
-use Rattle.fp_definition.specs.Valid.{are_variants, is_state, is_metadata, member_tests, names_variant, targeting_tests}
+use Rattle.fp_definition.specs.Valid.{are_variants, choice_tests, is_state, is_metadata, member_tests, names_variant, targeting_tests}
 use Rattle.fp_definition.specs.declared.resolving.EvalFault.{EvalFault}
 use Rattle.fp_definition.specs.declared.resolving.EvalFault.TheVariants.{Disabled, NoVariant, Memory}
 use Rattle.fp_definition.specs.declared.resolving.Reason.{Reason}
 use Rattle.fp_definition.specs.declared.resolving.Reason.TheVariants.{Static}
 use Rattle.fp_definition.specs.declared.resolving.Resolved.{Resolved}
 use Rattle.fp_definition.specs.declared.spelling.Place.{Place}
+use Rattle.fp_definition.specs.declared.spelling.Places.{Places}
 use Rattle.fp_definition.specs.declared.spelling.Variant.{Variant}
 
 -- ---- members and their texts
@@ -131,6 +132,14 @@ meets_tests d h =
     not_object bad_state bad_variants bad_default bad_metadata (targeting_tests (get (codes "targeting") d)) h in
     record { members = all.0; state = all.1; variants = all.2; default = all.3; metadata = all.4 }
 
+-- one that is met decides nothing
+pub passed : (b : Bool) (f : Fault) (rest : List (Bool × Fault)) → b ≡ true → first_failed ((b, f) ∷ rest) ≡ first_failed rest
+passed true f rest h = refl
+passed false f rest h = absurd (true≢false (sym h))
+
+pub choice_passed : (d : Data) (others : List (Bool × Fault)) → MeetsTests d → first_failed (choice_tests d others) ≡ first_failed others
+choice_passed d others met = rw (met.members, met.state, met.variants, met.default, met.metadata) refl
+
 the_variants : (o : Option Data) → are_variants o ≡ true → (ms : Members) × (o ≡ Some (object ms))
 the_variants (Some (object ms)) h = (ms, refl)
 the_variants None h = absurd (true≢false (sym h))
@@ -141,18 +150,19 @@ the_variants (Some (string s)) h = absurd (true≢false (sym h))
 the_variants (Some (array ds)) h = absurd (true≢false (sym h))
 
 -- of the members of a definition were noted what it chooses from
-pub record IsChosen (d : Data) (text : List ℕ) (vs : List Variant) (p : Option Place) : Type 0 where
+pub record IsChosen (d : Data) (text : List ℕ) (vs : List Variant) (p : Places) : Type 0 where
   pub members : Members
   pub variants : get (codes "variants") d ≡ Some (object members)
   pub sorted : IsSorted members
   pub values : AreAt text vs members
-  pub metadata : MatchOption p (get (codes "metadata") d ≡ None) (λ q. IsAt text q (get (codes "metadata") d))
+  pub metadata : MatchOption p.metadata (get (codes "metadata") d ≡ None) (λ q. IsAt text q (get (codes "metadata") d))
+  pub targeting : MatchOption p.targeting (get (codes "targeting") d ≡ None) (λ q. IsAt text q (get (codes "targeting") d))
 
 turned : (p : Option Place) (o : Option Data) (R : Place → Type 0) → MatchOption p (None ≡ o) R → MatchOption p (o ≡ None) R
 turned None o R h = sym h
 turned (Some p) o R h = h
 
-chosen_of : (ms : Members) (text : List ℕ) (vs : List Variant) (p : Option Place) → MeetsTests (object ms) →
+chosen_of : (ms : Members) (text : List ℕ) (vs : List Variant) (p : Places) → MeetsTests (object ms) →
     IsOrdered (object ms) → AreNoted text (Some vs) p no_members ms → IsChosen (object ms) text vs p
 chosen_of ms text vs p tested ordered noted =
     let v = the_variants (get_member (codes "variants") ms) tested.variants in record {
@@ -160,10 +170,11 @@ chosen_of ms text vs p tested ordered noted =
       variants = v.1;
       sorted = (ordered_get (codes "variants") (object ms) (object v.0) ordered v.1).0;
       values = noted.variants v.0 v.1;
-      metadata = turned p (get_member (codes "metadata") ms) (λ q. IsAt text q (get_member (codes "metadata") ms)) noted.metadata;
+      metadata = turned p.metadata (get_member (codes "metadata") ms) _ noted.metadata;
+      targeting = turned p.targeting (get_member (codes "targeting") ms) _ noted.targeting;
     }
 
-pub chosen_is : (d : Data) (text : List ℕ) (vs : List Variant) (p : Option Place) → MeetsTests d → IsOrdered d →
+pub chosen_is : (d : Data) (text : List ℕ) (vs : List Variant) (p : Places) → MeetsTests d → IsOrdered d →
     ((ms : Members) → d ≡ object ms → AreNoted text (Some vs) p no_members ms) → IsChosen d text vs p
 chosen_is (object ms) text vs p tested ordered noted = chosen_of ms text vs p tested ordered (noted ms refl)
 chosen_is null text vs p tested ordered noted = absurd (true≢false (sym tested.members))

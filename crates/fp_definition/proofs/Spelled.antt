@@ -5,14 +5,15 @@ use Rattle.std.proofs.Common.{length-append, append_assoc, true≢false, option_
 use Rattle.std.proofs.Math.Seq.{drop-append_seam}
 use Rattle.std.proofs.lemmas.List.{drop-append-le, length-drop, take-append-le}
 use Rattle.std.proofs.lemmas.Slice.Eq.{bytes_eq-Decides}
-use Rattle.std.specs.Prelude.{◌&&◌, MatchOption, is_some, not}
+use Rattle.std.specs.Prelude.{◌&&◌, MatchOption, if◌then◌else◌, is_some, not}
 use Rattle.std.specs.Str.{bytes_eq}
 use Rattle.serde_json.specs.Data.{Data, string, Members, no_members, member}
 use Rattle.serde_json.specs.Find.{get_member}
 use Rattle.serde_json.specs.Written.{compact_text}
 use Rattle.fp_base.proofs.Named.{found-here, found-later}
-use Rattle.fp_definition.specs.Spelled.{at, AreIn, AreNoted, AreWithin, IsAt, IsWithin, spelled}
+use Rattle.fp_definition.specs.Spelled.{at, AreIn, AreNoted, AreWithin, IsAt, IsNoted, IsWithin, noted_at, spelled}
 use Rattle.fp_definition.specs.declared.spelling.Place.{Place}
+use Rattle.fp_definition.specs.declared.spelling.Places.{Places}
 use Rattle.fp_definition.specs.declared.spelling.Variant.{Variant}
 
 -- ---- places
@@ -106,51 +107,62 @@ other k v w apart same = ap (λ l. bytes_eq l w) ((bytes_eq-Decides k v).0 same)
 apart : (b c : Bool) → b ≡ false → (b && c) ≡ false
 apart b c h = ap (λ x. x && c) h
 
-module _ (old bytes : List ℕ) (variants : Option (List Variant)) (metadata : Option Place) (k : List ℕ) (d : Data)
+-- of one name: its first member is noted as it is passed
+noted_on : (w old bytes k : List ℕ) (d : Data) (left all : Members) (o new : Option Place) (p : Place) →
+    new ≡ noted_at w k p o → at (old ++ bytes) p ≡ compact_text d → IsWithin (old ++ bytes) p →
+    IsNoted w old o (member k d left) all → IsNoted w (old ++ bytes) new left all
+noted_on w old bytes k d left all o new p is there within h =
+    subst (λ q. IsNoted w (old ++ bytes) q left all) (sym is) (by (bytes_eq k w) refl o h)
+  where
+    by : (b : Bool) → bytes_eq k w ≡ b → (o : Option Place) → IsNoted w old o (member k d left) all →
+        IsNoted w (old ++ bytes) (if b && not (is_some o) then Some p else o) left all
+    by true same None h = (d, here w k d left all same h, there, within)
+    by true same (Some q) h = at_all_more old bytes q _ h
+    by false same None h = later w k d left all None (λ q. IsAt (old ++ bytes) q (get_member w all)) (apart _ _ same) h
+    by false same (Some q) h = at_all_more old bytes q _ h
+
+module _ (old bytes : List ℕ) (variants : Option (List Variant)) (places : Places) (k : List ℕ) (d : Data)
     (left all : Members) where
+  -- of a name that this one isn't
+  not_noted : (w : List ℕ) (o : Option Place) → bytes_eq k w ≡ false → IsNoted w old o (member k d left) all →
+      IsNoted w (old ++ bytes) o left all
+  not_noted w o other h = later w k d left all o _ (apart _ _ other) (known o _ _ _ (λ p. at_all_more old bytes p _) h)
+
   pub noted_variants : (vs : List Variant) → bytes_eq k (codes "variants") ≡ true → variants ≡ None → AreIn (old ++ bytes) vs (Some d)
-      → AreNoted old variants metadata (member k d left) all → AreNoted (old ++ bytes) (Some vs) metadata left all
+      → AreNoted old variants places (member k d left) all → AreNoted (old ++ bytes) (Some vs) places left all
   noted_variants vs same none there h = record {
     variants = subst (AreIn (old ++ bytes) vs)
         (sym (here (codes "variants") k d left all same
         (subst (λ o. MatchOption o (get_member (codes "variants") (member k d left) ≡ get_member (codes "variants")
         all) (λ ws. AreIn old ws (get_member (codes "variants") all))) none h.variants))) there;
-    metadata = later (codes "metadata") k d left all metadata _
-        (apart _ _ (other k (codes "variants") (codes "metadata") refl same))
-        (known metadata _ _ _ (λ p. at_all_more old bytes p _) h.metadata);
+    metadata = not_noted (codes "metadata") places.metadata (other k (codes "variants") (codes "metadata") refl same) h.metadata;
+    targeting = not_noted (codes "targeting") places.targeting (other k (codes "variants") (codes "targeting") refl same) h.targeting;
   }
 
-  pub noted_metadata : (p : Place) → bytes_eq k (codes "metadata") ≡ true → metadata ≡ None →
-      at (old ++ bytes) p ≡ compact_text d → IsWithin (old ++ bytes) p
-      → AreNoted old variants metadata (member k d left) all → AreNoted (old ++ bytes) variants (Some p) left all
-  noted_metadata p same none there within h = record {
-    variants = later (codes "variants") k d left all variants _
-        (apart _ _ (other k (codes "metadata") (codes "variants") refl same))
+  pub noted_places : (new : Places) (p : Place) → (bytes_eq k (codes "variants") && not (is_some variants)) ≡ false →
+      new.metadata ≡ noted_at (codes "metadata") k p places.metadata →
+      new.targeting ≡ noted_at (codes "targeting") k p places.targeting →
+      at (old ++ bytes) p ≡ compact_text d → IsWithin (old ++ bytes) p →
+      AreNoted old variants places (member k d left) all → AreNoted (old ++ bytes) variants new left all
+  noted_places new p not_variants metadata targeting there within h = record {
+    variants = later (codes "variants") k d left all variants _ not_variants
         (known variants _ _ _ (λ vs. in_more old bytes vs _) h.variants);
-    metadata = (
-      d,
-      here (codes "metadata") k d left all same
-          (subst (λ o. MatchOption o (get_member (codes "metadata") (member k d left) ≡ get_member (codes "metadata")
-          all) (λ q. IsAt old q (get_member (codes "metadata") all))) none h.metadata),
-      there,
-      within,
-    );
+    metadata = noted_on (codes "metadata") old bytes k d left all places.metadata new.metadata p metadata there within h.metadata;
+    targeting = noted_on (codes "targeting") old bytes k d left all places.targeting new.targeting p targeting there within h.targeting;
   }
 
-  pub noted_other : (bytes_eq k (codes "variants") && not (is_some variants)) ≡ false →
-      (bytes_eq k (codes "metadata") && not (is_some metadata)) ≡ false
-      → AreNoted old variants metadata (member k d left) all → AreNoted (old ++ bytes) variants metadata left all
-  noted_other one two h = record {
-    variants = later (codes "variants") k d left all variants _ one (known variants _ _ _ (λ vs. in_more old bytes vs _) h.variants);
-    metadata = later (codes "metadata") k d left all metadata _ two (known metadata _ _ _ (λ p. at_all_more old bytes p _) h.metadata);
-  }
+pub none_noted_yet : (text : List ℕ) (all : Members) (places : Places) → places ≡ record { metadata = None; targeting = None } →
+    AreNoted text None places all all
+none_noted_yet text all places none =
+    subst (λ p. AreNoted text None p all all) (sym none) record { variants = refl; metadata = refl; targeting = refl }
 
-pub noted_more : (old bytes : List ℕ) (variants : Option (List Variant)) (metadata : Option Place)
-    (left all : Members) → AreNoted old variants metadata left all →
-    AreNoted (old ++ bytes) variants metadata left all
-noted_more old bytes variants metadata left all h = record {
+pub noted_more : (old bytes : List ℕ) (variants : Option (List Variant)) (places : Places)
+    (left all : Members) → AreNoted old variants places left all →
+    AreNoted (old ++ bytes) variants places left all
+noted_more old bytes variants places left all h = record {
   variants = known variants _ _ _ (λ vs. in_more old bytes vs _) h.variants;
-  metadata = known metadata _ _ _ (λ p. at_all_more old bytes p _) h.metadata;
+  metadata = known places.metadata _ _ _ (λ p. at_all_more old bytes p _) h.metadata;
+  targeting = known places.targeting _ _ _ (λ p. at_all_more old bytes p _) h.targeting;
 }
 
 -- ---- as the code has them
@@ -163,7 +175,3 @@ pub is_noted : (k w : List ℕ) (o : Option (Vec Variant Global)) → (bytes_eq 
     (bytes_eq k w && not (is_some (option_map (λ v. v.items) o))) ≡ false
 is_noted k w None h = h
 is_noted k w (Some v) h = h
-
-pub none_at : (o : Option Place) → not (is_some o) ≡ true → o ≡ None
-none_at None h = refl
-none_at (Some p) h = absurd (true≢false (sym h))

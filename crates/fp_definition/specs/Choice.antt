@@ -8,8 +8,8 @@ use Rattle.fp_definition.specs.Spelled.{AreAt, IsAt}
 use Rattle.fp_definition.specs.Valid.{is_state, are_variants, names_variant, is_metadata}
 use Rattle.fp_definition.specs.declared.choice.Choice.{Choice}
 
--- whether it is disabled and its default are those of the data, and its variants and its metadata
--- stand in their text
+-- whether it is disabled and its default are those of the data, and its variants, its metadata and
+-- its targeting stand in their text
 pub record IsChoice (d : Data) (text : List ℕ) (c : Choice) : Type 0 where
   pub disabled : c.is_disabled ≡ is_disabled (get (codes "state") d)
   pub default : get (codes "defaultVariant") d ≡ Some (string c.default.bytes)
@@ -17,8 +17,10 @@ pub record IsChoice (d : Data) (text : List ℕ) (c : Choice) : Type 0 where
   pub variants : get (codes "variants") d ≡ Some (object members)
   pub sorted : IsSorted members
   pub values : AreAt text c.variants.items members
-  pub metadata : MatchOption c.metadata (get (codes "metadata") d ≡ None)
+  pub metadata : MatchOption c.places.metadata (get (codes "metadata") d ≡ None)
       (λ p. IsAt text p (get (codes "metadata") d))
+  pub targeting : MatchOption c.places.targeting (get (codes "targeting") d ≡ None)
+      (λ p. IsAt text p (get (codes "targeting") d))
 
 -- the data meet the tests of their members, but for that of `targeting`
 pub record MeetsTests (d : Data) : Type 0 where

@@ -10,3 +10,4 @@ pub mod Kept
 pub mod Choice
 pub mod Memory
 pub mod Spelled
+pub mod Beside

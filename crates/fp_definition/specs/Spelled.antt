@@ -1,10 +1,12 @@
 -- What a reply has of a definition, as it stands in the definition's text.
 use Rattle.std.specs.Prelude.{◌≡◌, ◌≤◌, ℕ, List, [], ◌∷◌, Option, Some, MatchOption, codes, length}
-use Rattle.std.specs.Prelude.{slice_range, ⊤}
+use Rattle.std.specs.Prelude.{slice_range, ⊤, ◌&&◌, is_some, not, if◌then◌else◌}
+use Rattle.std.specs.Str.{bytes_eq}
 use Rattle.serde_json.specs.Data.{Data, string, object, Members, no_members, member}
 use Rattle.serde_json.specs.Find.{get_member}
 use Rattle.serde_json.specs.Written.{compact_text}
 use Rattle.fp_definition.specs.declared.spelling.Place.{Place}
+use Rattle.fp_definition.specs.declared.spelling.Places.{Places}
 use Rattle.fp_definition.specs.declared.spelling.Variant.{Variant}
 
 -- what stands at a place
@@ -42,12 +44,21 @@ pub record AreAt (text : List ℕ) (vs : List Variant) (ms : Members) : Type 0 w
 abbrev pub AreIn : List ℕ → List Variant → Option Data → Type 0
 AreIn text vs found = (ms : Members) → found ≡ Some (object ms) → AreAt text vs ms
 
+-- what was noted of the member of a name, where some members are left: its place, or that it isn't
+-- among those before
+abbrev pub IsNoted : List ℕ → List ℕ → Option Place → Members → Members → Type 0
+IsNoted name text p left all = MatchOption p (get_member name left ≡ get_member name all)
+    (λ q. IsAt text q (get_member name all))
+
 -- what was noted of members, of which some are left, while their text is put
-pub record AreNoted (text : List ℕ) (vs : Option (List Variant)) (p : Option Place)
+pub record AreNoted (text : List ℕ) (vs : Option (List Variant)) (p : Places)
     (left all : Members) : Type 0 where
   pub variants : MatchOption vs
       (get_member (codes "variants") left ≡ get_member (codes "variants") all)
       (λ ws. AreIn text ws (get_member (codes "variants") all))
-  pub metadata : MatchOption p
-      (get_member (codes "metadata") left ≡ get_member (codes "metadata") all)
-      (λ q. IsAt text q (get_member (codes "metadata") all))
+  pub metadata : IsNoted (codes "metadata") text p.metadata left all
+  pub targeting : IsNoted (codes "targeting") text p.targeting left all
+
+-- the place that is noted for a name, as a member stands at a place: that of the first of the name
+abbrev pub noted_at : List ℕ → List ℕ → Place → Option Place → Option Place
+noted_at name k p old = if bytes_eq k name && not (is_some old) then Some p else old

@@ -75,15 +75,19 @@ targeting_tests (Some null) = []
 targeting_tests (Some (object ms)) = verdict_tests (verdict (object ms))
 targeting_tests (Some d) = (false, bad_rule) ∷ []
 
--- the tests from the object on
-abbrev pub member_tests : Data → List (Bool × Fault)
-member_tests d =
+-- the tests from the object on, but for that of `targeting`, before others
+abbrev pub choice_tests : Data → List (Bool × Fault) → List (Bool × Fault)
+choice_tests d others =
     (is_some (as_object d), not_object)
     ∷ (is_state (get (codes "state") d), bad_state)
     ∷ (are_variants (get (codes "variants") d), bad_variants)
     ∷ (names_variant (get (codes "defaultVariant") d) (get (codes "variants") d), bad_default)
     ∷ (is_metadata (get (codes "metadata") d), bad_metadata)
-    ∷ targeting_tests (get (codes "targeting") d)
+    ∷ others
+
+-- the tests from the object on
+abbrev pub member_tests : Data → List (Bool × Fault)
+member_tests d = choice_tests d (targeting_tests (get (codes "targeting") d))
 
 -- what a definition has to meet, in the order of the tests, each with the fault where it isn't met
 abbrev pub tests : Data → List (Bool × Fault)

@@ -6,38 +6,42 @@ ghost use Rattle.serde_json.specs.Find.{get};
 ghost use Rattle.fp_base.specs.Ordered.{IsOrdered};
 ghost use Rattle.fp_base.specs.TreeView.{tree_view};
 ghost use Rattle.fp_definition.specs.Choice.{IsChoice, MeetsTests};
-ghost use Rattle.fp_definition.specs.Resolving.{is_disabled};
+ghost use Rattle.fp_definition.specs.Beside.{AreAlike};
+ghost use Rattle.fp_definition.specs.Resolving.{data_of, is_disabled};
 ghost use Rattle.fp_definition.specs.Spelled.{AreNoted};
 ghost use Rattle.fp_definition.specs.Valid.{names_variant};
 
-use crate::spelling::{Place, Variant};
+use crate::spelling::{Places, Variant};
 use fp_base::Tree;
 use fp_operators::Text;
 use std::alloc::{AllocError, Global};
 
-// Whether a definition is disabled, the name of its default variant, and where its variants' values
-// and its metadata stand in its text. What else it has is in its text and its rule alone.
+// Whether a definition is disabled, the name of its default variant, and where the values of its
+// variants and of other members stand in its text. What else it has is in its text and its rule
+// alone.
 #[derive(Drop)]
 pub(crate) struct Choice {
     pub(crate) is_disabled: bool,
     pub(crate) default: Text,
     pub(crate) variants: Vec<Variant>,
-    pub(crate) metadata: Option<Place>,
+    pub(crate) places: Places,
 }
 
-// The choice of a tree that meets the tests of its members, of whose text these were noted.
+// The choice of a text whose data meet the tests of their members, of which these were noted. The
+// tree has its members, but for `targeting`.
 pub(crate) fn chosen(
     alloc: Global,
     tree: &Tree<'_>,
     text: &[u8],
     variants: Option<Vec<Variant>>,
-    metadata: Option<Place>,
+    places: Places,
 ) -> Result<Choice, AllocError>
-    requires tested { MeetsTests (tree_view tree.now) }
-    requires ordered { IsOrdered (tree_view tree.now) }
-    requires noted { (ms : Members) → tree_view tree.now ≡ object ms
-        → AreNoted text.now (option_map (λ v. v.items) variants) metadata no_members ms }
-    ensures { IfOk result (IsChoice (tree_view tree.now) text.now) }
+    requires tested { MeetsTests (data_of text.now) }
+    requires ordered { IsOrdered (data_of text.now) }
+    requires alike { AreAlike (tree_view tree.now) (data_of text.now) }
+    requires noted { (ms : Members) → data_of text.now ≡ object ms
+        → AreNoted text.now (option_map (λ v. v.items) variants) places no_members ms }
+    ensures { IfOk result (IsChoice (data_of text.now) text.now) }
 {
     let Some(variants) = variants else {
         unreachable!()
@@ -47,7 +51,7 @@ pub(crate) fn chosen(
         is_disabled: says_disabled(tree),
         default,
         variants,
-        metadata,
+        places,
     })
 }
 

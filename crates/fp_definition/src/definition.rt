@@ -1,9 +1,8 @@
 //! A flag's definition.
 
-ghost use Rattle.std.specs.Prelude.{◌≡◌, true, Some, None, IfOk, IfErr};
-ghost use Rattle.std.specs.Prelude.{if◌then◌else◌};
+ghost use Rattle.std.specs.Prelude.{◌≡◌, true, Some, None, IfOk, IfErr, IfSome};
 ghost use Rattle.std.specs.Prelude.{◌≤◌, codes, length, option_map};
-ghost use Rattle.serde_json.specs.Data.{Members, depth, no_members, object};
+ghost use Rattle.serde_json.specs.Data.{Members, no_members, object};
 ghost use Rattle.serde_json.specs.Find.{get};
 ghost use Rattle.serde_json.specs.View.{view};
 ghost use Rattle.serde_json.specs.Written.{compact_text};
@@ -11,19 +10,22 @@ ghost use Rattle.fp_base.specs.Answer.{IsFirst};
 ghost use Rattle.fp_base.specs.Json.{json_of};
 ghost use Rattle.fp_base.specs.Ordered.{IsOrdered};
 ghost use Rattle.fp_base.specs.TreeView.{tree_view};
-ghost use Rattle.fp_base.specs.Whole.{is_whole};
+ghost use Rattle.fp_base.specs.Tests.{first_failed};
+ghost use Rattle.fp_definition.specs.Beside.{AreAlike, IsReadAs, IsTold, members_with, object_with};
+ghost use Rattle.fp_definition.specs.Beside.{targeting_beside, targeting_in};
 ghost use Rattle.fp_definition.specs.Choice.{IsChoice};
 ghost use Rattle.fp_definition.specs.Faults.{Tells};
 ghost use Rattle.fp_definition.specs.Resolving.{data_of};
 ghost use Rattle.fp_definition.specs.Spelled.{AreNoted};
 ghost use Rattle.fp_definition.specs.Targeting.{rule_in};
 ghost use Rattle.fp_definition.specs.Valid.{first_fault, IsValid, is_definition_text};
-ghost use Rattle.fp_definition.specs.Valid.{definition_in, is_text_of};
+ghost use Rattle.fp_definition.specs.Valid.{definition_in, targeting_tests};
 
 use crate::choice::{Choice, chosen};
 use crate::faults::DefFault;
 use crate::members::tested_members;
 use crate::reading::{Reading, read_definition};
+use crate::rules::rule_beside;
 use crate::spelling::Spelled;
 use crate::text::{fitted, text_of};
 use fp_base::{Tree, utf8_text};
@@ -103,22 +105,25 @@ impl Definition {
 
     /// The definition whose canonical text the bytes are, and `None` exactly where they are no such
     /// text. The bytes are read once.
-    #[tactic(auto, using(fp_base::proofs::Reading::json_of_refused, crate::proofs::Refused::too_long))]
     pub fn from_text(alloc: Global, text: &[u8]) -> Result<Option<Definition>, AllocError>
         ensures { IfOk result (λ o. o ≡ definition_in text.now) }
     {
-        if text.len() > LONGEST_DEFINITION {
-            return Ok(None);
-        }
-        let Some(whole) = utf8_text(text) else {
-            return Ok(None);
-        };
-        let mut room = Vec::new(alloc);
-        room.resize(text.len(), 0)?;
-        match read_definition(alloc, whole, room.as_mut_slice()) {
-            Ok(found) => read_through(alloc, text, found),
-            Err(Unread::Memory) => Err(AllocError),
-            Err(Unread::NotCanonical) => Ok(None),
+        read_text(alloc, text, None)
+    }
+
+    /// As `from_text`. Where `targeting` is spelled as that of another definition, the rule is a
+    /// share of its: it is neither read nor compiled again. Bytes that are no definition's text may
+    /// be read twice.
+    pub fn from_text_beside(
+        alloc: Global,
+        text: &[u8],
+        other: &Definition,
+    ) -> Result<Option<Definition>, AllocError>
+        ensures { IfOk result (λ o. o ≡ definition_in text.now) }
+    {
+        match read_text(alloc, text, Some(other))? {
+            Some(definition) => Ok(Some(definition)),
+            None => read_text(alloc, text, None),
         }
     }
 
@@ -137,8 +142,21 @@ impl Definition {
         ensures { option_map (λ t. t.now) result
             ≡ option_map compact_text (get (codes "metadata") (data_of self.now)) }
     {
-        match self.choice().metadata {
+        match self.choice().places.metadata {
             Some(place) => Some(&self.text()[place.start..place.end]),
+            None => None,
+        }
+    }
+
+    // The same of the member `targeting`.
+    pub(crate) fn targeting(&self) -> Option<&[u8]>
+        ensures text { option_map (λ t. t.now) result
+            ≡ option_map compact_text (get (codes "targeting") (data_of self.now)) }
+        ensures canonical { is_definition_text self.now ≡ true }
+    {
+        let text = self.text();
+        match self.choice().places.targeting {
+            Some(place) => Some(&text[place.start..place.end]),
             None => None,
         }
     }
@@ -148,6 +166,21 @@ impl Definition {
         ensures { IsChoice (data_of self.now) self.now result.now }
     {
         &self.share.choice
+    }
+
+    // A share of its rule, if it has one.
+    #[tactic(auto, using(crate::proofs::Refused::targeting_met))]
+    pub(crate) fn rule_share(&self) -> Result<Option<Rule>, AllocError>
+        ensures rule { IfOk result (λ r. r ≡ rule_in (get (codes "targeting") (data_of self.now))) }
+        ensures met { first_failed (targeting_tests (get (codes "targeting") (data_of self.now)))
+            ≡ None }
+    {
+        // What it is the text of meets the tests.
+        let _text = self.text();
+        match self.rule() {
+            Some(rule) => Ok(Some(rule.try_copy()?)),
+            None => Ok(None),
+        }
     }
 
     // The rule of the member `targeting`.
@@ -176,80 +209,104 @@ fn made(alloc: Global, tree: &Tree<'_>) -> Result<Definition, DefFault>
     ensures refused { IfErr result (IsFirst Tells (first_fault (tree_view tree.now))) }
 {
     let spelled = text_of(alloc, tree)?;
-    finished(alloc, tree, spelled)
+    finished(alloc, tree, spelled, None)
 }
 
-// The definition that a tree is, whose text meets the tests of its size.
-fn finished(alloc: Global, tree: &Tree<'_>, spelled: Spelled) -> Result<Definition, DefFault>
-    requires ordered { IsOrdered (tree_view tree.now) }
-    requires whole { is_whole (tree_view tree.now) ≡ true }
-    requires flat { depth (tree_view tree.now) ≤ DEEPEST_DEFINITION }
+// The definition whose canonical text this is, which meets the tests of its size. The tree has its
+// members, but for `targeting` where that is another definition's.
+fn finished(
+    alloc: Global,
+    tree: &Tree<'_>,
+    spelled: Spelled,
+    other: Option<&Definition>,
+) -> Result<Definition, DefFault>
     requires short { length spelled.text.items ≤ LONGEST_DEFINITION }
-    requires text { spelled.text.items ≡ compact_text (tree_view tree.now) }
-    requires reads { json_of spelled.text.items ≡ Some (tree_view tree.now) }
-    requires noted { (ms : Members) → tree_view tree.now ≡ object ms
+    requires read { IsReadAs spelled.text.items (data_of spelled.text.items) }
+    requires alike { AreAlike (tree_view tree.now) (data_of spelled.text.items) }
+    requires alone { other ≡ None → tree_view tree.now ≡ data_of spelled.text.items }
+    requires targeting { targeting_beside other (tree_view tree.now)
+        ≡ get (codes "targeting") (data_of spelled.text.items) }
+    requires noted { (ms : Members) → data_of spelled.text.items ≡ object ms
         → AreNoted spelled.text.items (option_map (λ v. v.items) spelled.variants)
-        spelled.metadata no_members ms }
-    ensures valid { IfOk result (λ _. IsValid (tree_view tree.now)) }
-    ensures text { IfOk result (λ d. d ≡ compact_text (tree_view tree.now)) }
-    ensures reads { IfOk result (λ d. json_of d ≡ Some (tree_view tree.now)) }
-    ensures refused { IfErr result (IsFirst Tells (first_fault (tree_view tree.now))) }
+        spelled.places no_members ms }
+    ensures valid { IfOk result (λ _. IsValid (data_of spelled.text.items)) }
+    ensures text { IfOk result (λ d. d ≡ spelled.text.items) }
+    ensures refused { IfErr result (IsFirst Tells (first_fault (data_of spelled.text.items))) }
 {
-    let rule = tested_members(alloc, tree)?;
+    tested_members(tree)?;
+    let rule = rule_beside(alloc, tree, other)?;
     let Spelled {
         text,
         variants,
-        metadata,
+        places,
     } = spelled;
-    let choice = chosen(alloc, tree, &text, variants, metadata)?;
+    let choice = chosen(alloc, tree, &text, variants, places)?;
     let text = fitted(text);
     let share = Arc::new(alloc, Kept { text, choice, rule })?;
     Ok(Definition { share })
 }
 
+// The definition whose canonical text the bytes are, read beside another if there is one. `None` is
+// exact where there is no other.
+#[tactic(auto, using(fp_base::proofs::Reading::json_of_refused, crate::proofs::Refused::too_long))]
+fn read_text(
+    alloc: Global,
+    text: &[u8],
+    other: Option<&Definition>,
+) -> Result<Option<Definition>, AllocError>
+    ensures some { IfOk result (λ o. IfSome o (λ d. Some d ≡ definition_in text.now)) }
+    ensures exact { other.entry ≡ None → IfOk result (λ o. o ≡ definition_in text.now) }
+{
+    if text.len() > LONGEST_DEFINITION {
+        return Ok(None);
+    }
+    let Some(whole) = utf8_text(text) else {
+        return Ok(None);
+    };
+    let mut room = Vec::new(alloc);
+    room.resize(text.len(), 0)?;
+    match read_definition(alloc, whole, room.as_mut_slice(), other) {
+        Ok(found) => read_through(alloc, text, found),
+        Err(Unread::Memory) => Err(AllocError),
+        Err(Unread::NotCanonical) => Ok(None),
+    }
+}
+
 // The definition that was read of its canonical text.
-#[tactic(auto, unfolding(crate::specs::Valid::is_text_of))]
 fn read_through(
     alloc: Global,
     text: &[u8],
-    found: Reading<'_>,
+    found: Reading<'_, '_>,
 ) -> Result<Option<Definition>, AllocError>
-    requires text { text.now ≡ compact_text (tree_view found.tree) }
-    requires reads { json_of text.now ≡ Some (tree_view found.tree) }
-    requires ordered { IsOrdered (tree_view found.tree) }
-    requires whole { is_whole (tree_view found.tree) ≡ true }
-    requires flat { depth (tree_view found.tree) ≤ DEEPEST_DEFINITION }
+    requires read { IsReadAs text.now (object_with found.noted.other found.members.items) }
+    requires told { IsTold found.noted.other found.members.items }
     requires short { length text.now ≤ LONGEST_DEFINITION }
-    requires noted { (ms : Members) → tree_view found.tree ≡ object ms
-        → AreNoted text.now (option_map (λ v. v.items) found.noted.variants)
-        found.noted.metadata no_members ms }
-    ensures { IfOk result (λ o.
-        o ≡ (if is_text_of text.now (tree_view found.entry.tree) then Some text.now else None)) }
+    requires noted { AreNoted text.now (option_map (λ v. v.items) found.noted.variants)
+        found.noted.places no_members
+        (members_with (targeting_in found.noted.other) found.members.items no_members) }
+    ensures { IfOk result (λ o. o ≡ definition_in text.now) }
 {
-    let Reading { tree, noted } = found;
+    let Reading { members, noted } = found;
+    let tree = Tree::Object(members);
     let mut own = Vec::with_capacity(alloc, text.len())?;
     own.extend_from_slice(text)?;
     let spelled = Spelled {
         text: own,
         variants: noted.variants,
-        metadata: noted.metadata,
+        places: noted.places,
     };
-    match finished(alloc, &tree, spelled) {
+    match finished(alloc, &tree, spelled, noted.other) {
         Ok(definition) => Ok(Some(definition)),
-        Err(fault) => no_definition(fault, text, &tree),
+        Err(fault) => no_definition(fault, text),
     }
 }
 
-// There is none of this text and tree, which have the fault, unless memory was wanting.
+// There is none of this text, which has the fault, unless memory was wanting.
 #[tactic(auto, unfolding(crate::specs::Valid::is_text_of))]
-fn no_definition(
-    fault: DefFault,
-    _text: &[u8],
-    _tree: &Tree<'_>,
-) -> Result<Option<Definition>, AllocError>
-    requires { IsFirst Tells (first_fault (tree_view _tree.now)) fault }
-    ensures { IfOk result (λ o.
-        o ≡ (if is_text_of _text.now (tree_view _tree.now) then Some _text.now else None)) }
+fn no_definition(fault: DefFault, _text: &[u8]) -> Result<Option<Definition>, AllocError>
+    requires fault { IsFirst Tells (first_fault (data_of _text.now)) fault }
+    requires read { json_of _text.now ≡ Some (data_of _text.now) }
+    ensures { IfOk result (λ o. o ≡ definition_in _text.now) }
 {
     match fault {
         DefFault::Memory => Err(AllocError),

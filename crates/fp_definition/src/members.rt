@@ -1,27 +1,20 @@
 //! The tests that each member of a definition has to meet.
 
-ghost use Rattle.std.specs.Prelude.{◌≡◌, ◌≤◌, true, codes, Some, None, IfOk, IfErr, is_some};
-ghost use Rattle.serde_json.specs.Data.{depth};
+ghost use Rattle.std.specs.Prelude.{◌≡◌, List, Bool, codes, Some, IfOk, IfErr, is_some};
 ghost use Rattle.serde_json.specs.Events.{members_len};
 ghost use Rattle.serde_json.specs.Find.{as_object, get};
 ghost use Rattle.fp_base.specs.Answer.{IsFirst};
-ghost use Rattle.fp_base.specs.Ordered.{IsOrdered};
 ghost use Rattle.fp_base.specs.Tests.{first_failed};
 ghost use Rattle.fp_base.specs.TreeView.{tree_view, tree_members};
-ghost use Rattle.fp_base.specs.Whole.{is_whole};
+ghost use Rattle.fp_definition.specs.Choice.{MeetsTests};
 ghost use Rattle.fp_definition.specs.Faults.{Tells};
-ghost use Rattle.fp_definition.specs.Targeting.{rule_in};
-ghost use Rattle.fp_definition.specs.Valid.{member_tests, is_state, are_variants, variant_members};
+ghost use Rattle.fp_definition.specs.Valid.{Fault, choice_tests, is_state, are_variants, variant_members};
 ghost use Rattle.fp_definition.specs.Valid.{is_between, names_variant, is_metadata};
 ghost use Rattle.fp_definition.specs.Valid.{metadata_members};
 
-use crate::definition::DEEPEST_DEFINITION;
 use crate::faults::DefFault;
 use crate::kind::{are_of_one_kind, are_scalars};
-use crate::rules::rule_of;
 use fp_base::Tree;
-use fp_targeting::Rule;
-use std::alloc::Global;
 
 /// The most variants that a definition has.
 pub const MOST_VARIANTS: usize = 64;
@@ -29,16 +22,12 @@ pub const MOST_VARIANTS: usize = 64;
 /// The most members that a definition's `metadata` has.
 pub const MOST_METADATA: usize = 32;
 
-// The rule of a tree that meets each of these tests, if it has one; else the fault of the first
-// that it doesn't meet.
-pub(crate) fn tested_members(alloc: Global, tree: &Tree<'_>) -> Result<Option<Rule>, DefFault>
-    requires whole { is_whole (tree_view tree.now) ≡ true }
-    requires flat { depth (tree_view tree.now) ≤ DEEPEST_DEFINITION }
-    requires ordered { IsOrdered (tree_view tree.now) }
-    ensures met { IfOk result (λ _. first_failed (member_tests (tree_view tree.now)) ≡ None) }
-    ensures rule { IfOk result (λ r. r ≡ rule_in (get (codes "targeting") (tree_view tree.now))) }
-    ensures refused { IfErr result
-        (IsFirst Tells (first_failed (member_tests (tree_view tree.now)))) }
+// The fault of the first test of a tree's members that it doesn't meet, but for that of `targeting`,
+// whatever is tested behind them.
+pub(crate) fn tested_members(tree: &Tree<'_>) -> Result<(), DefFault>
+    ensures met { IfOk result (λ _. MeetsTests (tree_view tree.now)) }
+    ensures refused { (others : List (Bool × Fault)) → IfErr result
+        (IsFirst Tells (first_failed (choice_tests (tree_view tree.now) others))) }
 {
     if !is_object(tree) {
         return Err(DefFault::NotObject);
@@ -55,7 +44,7 @@ pub(crate) fn tested_members(alloc: Global, tree: &Tree<'_>) -> Result<Option<Ru
     if !has_metadata(tree) {
         return Err(DefFault::BadMetadata);
     }
-    rule_of(alloc, tree)
+    Ok(())
 }
 
 fn is_object(tree: &Tree<'_>) -> bool

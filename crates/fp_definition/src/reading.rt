@@ -1,8 +1,8 @@
 //! A definition, read from its canonical text.
 
-ghost use Rattle.std.specs.Prelude.{◌≡◌, ◌<◌, ◌≤◌, ◌-◌, ◌++◌, [], ℕ, List, false, true, Some};
-ghost use Rattle.std.specs.Prelude.{IfErr, IfOk, OnOk, MatchResult};
-ghost use Rattle.std.specs.Prelude.{length, option_map};
+ghost use Rattle.std.specs.Prelude.{◌≡◌, ◌<◌, ◌≤◌, ◌-◌, ◌++◌, [], ℕ, List, false, true, None, Some};
+ghost use Rattle.std.specs.Prelude.{IfErr, IfOk, IsSome, OnOk, MatchResult, codes, length, option_map};
+ghost use Rattle.std.specs.Str.{bytes_eq};
 ghost use Rattle.serde_json.specs.Data.{Data, Members, depth, member, no_members, object};
 ghost use Rattle.serde_json.specs.Written.{compact_text, members_text};
 ghost use Rattle.fp_base.specs.Json.{json_of};
@@ -12,10 +12,12 @@ ghost use Rattle.fp_base.specs.TreeView.{tree_members, tree_view};
 ghost use Rattle.fp_base.specs.Whole.{is_whole};
 ghost use Rattle.fp_canonical.specs.Reads.{Ends, Reads, ReadsMembers};
 ghost use Rattle.fp_canonical.specs.declared.reading.Unread.TheVariants.{Memory};
+ghost use Rattle.fp_definition.specs.Beside.{in_place, members_with, object_with, targeting_in};
+ghost use Rattle.fp_definition.specs.Beside.{IsOn, IsReadAs, IsTold};
 ghost use Rattle.fp_definition.specs.Spelled.{AreAt, AreIn, AreNoted};
 
-use crate::definition::DEEPEST_DEFINITION;
-use crate::spelling::{Place, Variant, is_first};
+use crate::definition::{DEEPEST_DEFINITION, Definition};
+use crate::spelling::{Place, Places, Variant, is_first};
 use fp_base::Tree;
 use fp_canonical::{Cursor, Unread, read_value};
 use fp_operators::Text;
@@ -27,102 +29,113 @@ const MEMBERS: usize = 5;
 // So many variants mostly.
 const VARIANTS: usize = 2;
 
-// The tree of a text, and where the values of its variants, in their order, and its metadata stand
-// in the text.
+// The members of a text, and what was noted of them.
 #[derive(Drop)]
-pub(crate) struct Reading<'a> {
-    pub(crate) tree: Tree<'a>,
-    pub(crate) noted: Noted,
+pub(crate) struct Reading<'a, 'o> {
+    pub(crate) members: Vec<(&'a str, Tree<'a>)>,
+    pub(crate) noted: Noted<'o>,
 }
 
+// Where the values of a text's variants, in their order, and of other members stand in it, and the
+// definition whose `targeting` it has, if that was found out: null is then read for it.
 #[derive(Drop)]
-pub(crate) struct Noted {
+pub(crate) struct Noted<'o> {
     pub(crate) variants: Option<Vec<Variant>>,
-    pub(crate) metadata: Option<Place>,
+    pub(crate) places: Places,
+    pub(crate) other: Option<&'o Definition>,
 }
 
 // The object whose canonical text this is, within the depth of a definition. `room` is for strings
-// that have escapes.
-pub(crate) fn read_definition<'a>(
+// that have escapes. A `targeting` that is spelled as the other's is passed over.
+pub(crate) fn read_definition<'a, 'o>(
     alloc: Global,
     text: &'a str,
     room: &'a mut [u8],
-) -> Result<Reading<'a>, Unread>
+    other: Option<&'o Definition>,
+) -> Result<Reading<'a, 'o>, Unread>
     requires { length text.now ≤ length room.old }
-    ensures text { IfOk result (λ r. text.now ≡ compact_text (tree_view r.tree)) }
-    ensures reads { IfOk result (λ r. json_of text.now ≡ Some (tree_view r.tree)) }
-    ensures ordered { IfOk result (λ r. IsOrdered (tree_view r.tree)) }
-    ensures whole { IfOk result (λ r. is_whole (tree_view r.tree) ≡ true) }
-    ensures flat { IfOk result (λ r. depth (tree_view r.tree) ≤ DEEPEST_DEFINITION) }
-    ensures noted { IfOk result (λ r. (ms : Members) → tree_view r.tree ≡ object ms
-        → AreNoted text.now (option_map (λ v. v.items) r.noted.variants) r.noted.metadata
-        no_members ms) }
-    // It is read wherever the text is the canonical one of an object, if there is memory.
-    ensures taken { (ms : Members) → Reads DEEPEST_DEFINITION (object ms) text.now []
-        → IfErr result (λ e. e ≡ Memory) }
+    ensures read { IfOk result (λ r.
+        IsReadAs text.now (object_with r.noted.other r.members.items)) }
+    ensures noted { IfOk result (λ r. AreNoted text.now
+        (option_map (λ v. v.items) r.noted.variants) r.noted.places no_members
+        (members_with (targeting_in r.noted.other) r.members.items no_members)) }
+    ensures alone { other.entry ≡ None → IfOk result (λ r. r.noted.other ≡ None) }
+    ensures told { IfOk result (λ r. IsTold r.noted.other r.members.items) }
+    // It is read wherever the text is the canonical one of an object, if there is memory and no
+    // other.
+    ensures taken { (ms : Members) → other.entry ≡ None
+        → Reads DEEPEST_DEFINITION (object ms) text.now [] → IfErr result (λ e. e ≡ Memory) }
 {
     let mut cursor = Cursor::new(text, room);
     if !cursor.take(b'{') {
         return Err(Unread::NotCanonical);
     }
-    let (members, noted) = read_members(alloc, &mut cursor, text.len())?;
+    let (members, noted) = read_members(alloc, &mut cursor, text.len(), other)?;
     if cursor.left() > 0 {
         return Err(Unread::NotCanonical);
     }
-    let tree = Tree::Object(members);
-    Ok(Reading { tree, noted })
+    Ok(Reading { members, noted })
 }
 
 // The members of a definition, whose whole text is so long.
-fn read_members<'a>(
+fn read_members<'a, 'o>(
     alloc: Global,
     cursor: &mut Cursor<'a>,
     len: usize,
-) -> Result<(Vec<(&'a str, Tree<'a>)>, Noted), Unread>
+    other: Option<&'o Definition>,
+) -> Result<(Vec<(&'a str, Tree<'a>)>, Noted<'o>), Unread>
     requires { length cursor.old ≤ len }
-    ensures read { IfOk result (λ p.
-        ReadsMembers (DEEPEST_DEFINITION - 1) false (tree_members p.0.items) cursor.old
-        cursor.new) }
+    ensures read { IfOk result (λ p. ReadsMembers (DEEPEST_DEFINITION - 1) false
+        (members_with (targeting_in p.1.other) p.0.items no_members) cursor.old cursor.new) }
     ensures sorted { IfOk result (λ p. IsSorted (tree_members p.0.items)) }
     ensures noted { IfOk result (λ p. (passed : List ℕ) → len ≡ length (passed ++ cursor.old)
-        → AreNoted (passed ++ members_text false (tree_members p.0.items))
-        (option_map (λ v. v.items) p.1.variants) p.1.metadata no_members
-        (tree_members p.0.items)) }
-    ensures taken { (ms : Members) (left : List ℕ)
+        → AreNoted (passed ++ members_text false
+        (members_with (targeting_in p.1.other) p.0.items no_members))
+        (option_map (λ v. v.items) p.1.variants) p.1.places no_members
+        (members_with (targeting_in p.1.other) p.0.items no_members)) }
+    ensures alone { other.entry ≡ None → IfOk result (λ p. p.1.other ≡ None) }
+    ensures told { IfOk result (λ p. IsTold p.1.other p.0.items) }
+    ensures taken { (ms : Members) (left : List ℕ) → other.entry ≡ None
         → ReadsMembers (DEEPEST_DEFINITION - 1) false ms cursor.old left → IsSorted ms
         → MatchResult result (λ _. cursor.new ≡ left) (λ e. e ≡ Memory) }
 {
     let mut found: Vec<(&'a str, Tree<'a>)> = Vec::with_capacity(alloc, MEMBERS)?;
     let mut noted = Noted {
         variants: None,
-        metadata: None,
+        places: Places::none(),
+        other: None,
     };
     'members: while let Some(name) = cursor.next_name(found.as_slice())? {
-        let value = read_member(alloc, cursor, len, name, &mut noted)?;
+        let value = read_member(alloc, cursor, len, name, other, &mut noted)?;
         found.push((name, value))?;
     }
     Ok((found, noted))
 }
 
-// The value of a member. The first of either name is noted.
-fn read_member<'a>(
+// The value of a member. The first of each name is noted.
+fn read_member<'a, 'o>(
     alloc: Global,
     cursor: &mut Cursor<'a>,
     len: usize,
     name: &str,
-    noted: &mut Noted,
+    other: Option<&'o Definition>,
+    noted: &mut Noted<'o>,
 ) -> Result<Tree<'a>, Unread>
-    requires { length cursor.old ≤ len }
-    ensures read { IfOk result (λ t.
-        Reads (DEEPEST_DEFINITION - 1) (tree_view t) cursor.old cursor.new) }
+    requires within { length cursor.old ≤ len }
+    requires first { IsSome noted.old.other → bytes_eq name.now (codes "targeting") ≡ false }
+    ensures read { IfOk result (λ t. Reads (DEEPEST_DEFINITION - 1)
+        (in_place (targeting_in noted.new.other) name.now (tree_view t)) cursor.old cursor.new) }
     ensures shorter { OnOk result (length cursor.new < length cursor.old) }
     ensures noted { IfOk result (λ t. (passed : List ℕ) → len ≡ length (passed ++ cursor.old)
         → (left all : Members)
-        → AreNoted passed (option_map (λ v. v.items) noted.old.variants) noted.old.metadata
-        (member name.now (tree_view t) left) all
-        → AreNoted (passed ++ compact_text (tree_view t))
-        (option_map (λ v. v.items) noted.new.variants) noted.new.metadata left all) }
-    ensures taken { (d : Data) (left : List ℕ)
+        → AreNoted passed (option_map (λ v. v.items) noted.old.variants) noted.old.places
+        (member name.now (in_place (targeting_in noted.new.other) name.now (tree_view t)) left) all
+        → AreNoted
+        (passed ++ compact_text (in_place (targeting_in noted.new.other) name.now (tree_view t)))
+        (option_map (λ v. v.items) noted.new.variants) noted.new.places left all) }
+    ensures on { IfOk result (λ _. IsOn noted.old.other noted.new.other name.now) }
+    ensures alone { other.entry ≡ None → noted.new.other ≡ noted.old.other }
+    ensures taken { (d : Data) (left : List ℕ) → other.entry ≡ None
         → Reads (DEEPEST_DEFINITION - 1) d cursor.old left → Ends left
         → MatchResult result (λ _. cursor.new ≡ left) (λ e. e ≡ Memory) }
 {
@@ -132,13 +145,52 @@ fn read_member<'a>(
         return Ok(value);
     }
     let start = len - cursor.left();
-    let value = read_value(alloc, cursor, DEEPEST_DEFINITION - 1)?;
+    let value = read_or_pass(alloc, cursor, name, other, &mut noted.other)?;
     let end = len - cursor.left();
-    if is_first(name, "metadata", noted.metadata.is_none()) {
-        noted.metadata = Some(Place { start, end });
-        return Ok(value);
-    }
+    noted.places.note(name, Place { start, end });
     Ok(value)
+}
+
+// The value of a member, or null where it is the other's `targeting`, which is then told.
+fn read_or_pass<'a, 'o>(
+    alloc: Global,
+    cursor: &mut Cursor<'a>,
+    name: &str,
+    other: Option<&'o Definition>,
+    told: &mut Option<&'o Definition>,
+) -> Result<Tree<'a>, Unread>
+    requires { IsSome told.old → bytes_eq name.now (codes "targeting") ≡ false }
+    ensures read { IfOk result (λ t. Reads (DEEPEST_DEFINITION - 1)
+        (in_place (targeting_in told.new) name.now (tree_view t)) cursor.old cursor.new) }
+    ensures shorter { OnOk result (length cursor.new < length cursor.old) }
+    ensures on { IfOk result (λ _. IsOn told.old told.new name.now) }
+    ensures alone { other.entry ≡ None → told.new ≡ told.old }
+    ensures taken { (d : Data) (left : List ℕ) → other.entry ≡ None
+        → Reads (DEEPEST_DEFINITION - 1) d cursor.old left → Ends left
+        → MatchResult result (λ _. cursor.new ≡ left) (λ e. e ≡ Memory) }
+{
+    if name == "targeting" && passes_targeting(cursor, other) {
+        *told = other;
+        return Ok(Tree::Null);
+    }
+    read_value(alloc, cursor, DEEPEST_DEFINITION - 1)
+}
+
+// Goes past the `targeting` of another definition, if it comes next.
+fn passes_targeting(cursor: &mut Cursor<'_>, other: Option<&Definition>) -> bool
+    ensures passed { result ≡ true → (d : Data) × (targeting_in other.entry ≡ Some d)
+        × Reads (DEEPEST_DEFINITION - 1) d cursor.old cursor.new }
+    ensures shorter { result ≡ true → length cursor.new < length cursor.old }
+    ensures kept { result ≡ false → cursor.new ≡ cursor.old }
+    ensures alone { other.entry ≡ None → result ≡ false }
+{
+    match other {
+        Some(other) => match other.targeting() {
+            Some(text) => cursor.take_text(text),
+            None => false,
+        },
+        None => false,
+    }
 }
 
 // The value of `variants`, and the variants if it is an object.

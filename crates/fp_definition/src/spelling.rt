@@ -12,7 +12,7 @@ ghost use Rattle.fp_base.specs.Ordered.{IsOrdered};
 ghost use Rattle.fp_base.specs.Printed.{IsPrinted};
 ghost use Rattle.fp_base.specs.TreeView.{tree_members, tree_view};
 ghost use Rattle.fp_base.specs.Whole.{is_whole, members_whole};
-ghost use Rattle.fp_definition.specs.Spelled.{AreAt, AreIn, AreNoted};
+ghost use Rattle.fp_definition.specs.Spelled.{AreAt, AreIn, AreNoted, noted_at};
 
 use fp_base::{Tree, put_name};
 use fp_operators::Text;
@@ -32,12 +32,46 @@ pub(crate) struct Variant {
     pub(crate) value: Place,
 }
 
-// A text, and where the values of its variants, in their order, and its metadata stand in it.
+// Where the values of members stand.
+#[derive(Drop, Clone, Copy)]
+pub(crate) struct Places {
+    pub(crate) metadata: Option<Place>,
+    pub(crate) targeting: Option<Place>,
+}
+
+impl Places {
+    // Nothing is noted.
+    pub(crate) fn none() -> Places
+        ensures { result ≡ record { metadata = None; targeting = None } }
+    {
+        Places {
+            metadata: None,
+            targeting: None,
+        }
+    }
+
+    // Notes where the value of a member of this name stands, of the first of either name.
+    pub(crate) fn note(&mut self, name: &str, place: Place)
+        ensures metadata { self.new.metadata
+            ≡ noted_at (codes "metadata") name.now place self.old.metadata }
+        ensures targeting { self.new.targeting
+            ≡ noted_at (codes "targeting") name.now place self.old.targeting }
+    {
+        if is_first(name, "metadata", self.metadata.is_none()) {
+            self.metadata = Some(place);
+        }
+        if is_first(name, "targeting", self.targeting.is_none()) {
+            self.targeting = Some(place);
+        }
+    }
+}
+
+// A text, and where the values of its variants, in their order, and of other members stand in it.
 #[derive(Drop)]
 pub(crate) struct Spelled {
     pub(crate) text: Vec<u8>,
     pub(crate) variants: Option<Vec<Variant>>,
-    pub(crate) metadata: Option<Place>,
+    pub(crate) places: Places,
 }
 
 // A text is begun with this room.
@@ -51,12 +85,12 @@ pub(crate) fn spell(alloc: Global, tree: &Tree<'_>) -> Result<Spelled, AllocErro
     ensures text { IfOk result (λ s. s.text.items ≡ compact_text (tree_view tree.now)) }
     ensures reads { IfOk result (λ s. json_of s.text.items ≡ Some (tree_view tree.now)) }
     ensures noted { IfOk result (λ s. (ms : Members) → tree_view tree.now ≡ object ms
-        → AreNoted s.text.items (option_map (λ v. v.items) s.variants) s.metadata no_members ms) }
+        → AreNoted s.text.items (option_map (λ v. v.items) s.variants) s.places no_members ms) }
 {
     let mut spelled = Spelled {
         text: Vec::with_capacity(alloc, USUAL_ROOM)?,
         variants: None,
-        metadata: None,
+        places: Places::none(),
     };
     put_definition(alloc, &mut spelled, tree)?;
     Ok(spelled)
@@ -70,9 +104,9 @@ fn put_definition(alloc: Global, spelled: &mut Spelled, tree: &Tree<'_>) -> Resu
     ensures printed { OnOk result (IsPrinted (tree_view tree.now)) }
     ensures noted { OnOk result ((ms : Members) → tree_view tree.now ≡ object ms
         → AreNoted spelled.old.text.items (option_map (λ v. v.items) spelled.old.variants)
-        spelled.old.metadata ms ms
+        spelled.old.places ms ms
         → AreNoted spelled.new.text.items (option_map (λ v. v.items) spelled.new.variants)
-        spelled.new.metadata no_members ms) }
+        spelled.new.places no_members ms) }
 {
     match tree {
         Tree::Object(members) => put_members(alloc, spelled, members),
@@ -92,9 +126,9 @@ fn put_members(
     ensures printed { OnOk result (IsPrinted (object (tree_members members.now))) }
     ensures noted { OnOk result (
         AreNoted spelled.old.text.items (option_map (λ v. v.items) spelled.old.variants)
-        spelled.old.metadata (tree_members members.now) (tree_members members.now)
+        spelled.old.places (tree_members members.now) (tree_members members.now)
         → AreNoted spelled.new.text.items (option_map (λ v. v.items) spelled.new.variants)
-        spelled.new.metadata no_members (tree_members members.now)) }
+        spelled.new.places no_members (tree_members members.now)) }
 {
     spelled.text.push(b'{')?;
     let mut later = false;
@@ -107,7 +141,7 @@ fn put_members(
     Ok(())
 }
 
-// Puts the value of a member, and notes the first of either name.
+// Puts the value of a member, and notes the first of each name.
 fn put_member(
     alloc: Global,
     spelled: &mut Spelled,
@@ -120,9 +154,9 @@ fn put_member(
     ensures printed { OnOk result (IsPrinted (tree_view value.now)) }
     ensures noted { OnOk result ((left all : Members)
         → AreNoted spelled.old.text.items (option_map (λ v. v.items) spelled.old.variants)
-        spelled.old.metadata (member name.now (tree_view value.now) left) all
+        spelled.old.places (member name.now (tree_view value.now) left) all
         → AreNoted spelled.new.text.items (option_map (λ v. v.items) spelled.new.variants)
-        spelled.new.metadata left all) }
+        spelled.new.places left all) }
 {
     if is_first(name, "variants", spelled.variants.is_none()) {
         let variants = put_variants(alloc, &mut spelled.text, value)?;
@@ -131,10 +165,8 @@ fn put_member(
     }
     let start = spelled.text.len();
     value.put_text(&mut spelled.text)?;
-    if is_first(name, "metadata", spelled.metadata.is_none()) {
-        let end = spelled.text.len();
-        spelled.metadata = Some(Place { start, end });
-    }
+    let end = spelled.text.len();
+    spelled.places.note(name, Place { start, end });
     Ok(())
 }
 

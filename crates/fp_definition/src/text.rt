@@ -27,7 +27,7 @@ pub(crate) fn text_of(alloc: Global, tree: &Tree<'_>) -> Result<Spelled, DefFaul
     ensures text { IfOk result (λ s. s.text.items ≡ compact_text (tree_view tree.now)) }
     ensures reads { IfOk result (λ s. json_of s.text.items ≡ Some (tree_view tree.now)) }
     ensures noted { IfOk result (λ s. (ms : Members) → tree_view tree.now ≡ object ms
-        → AreNoted s.text.items (option_map (λ v. v.items) s.variants) s.metadata no_members ms) }
+        → AreNoted s.text.items (option_map (λ v. v.items) s.variants) s.places no_members ms) }
     ensures refused { IfErr result (IsFirst Tells (first_fault (tree_view tree.now))) }
 {
     tested_size(tree)?;

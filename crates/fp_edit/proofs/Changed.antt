@@ -13,7 +13,7 @@ use Rattle.fp_documents.specs.declared.flags.Flag.{Flag}
 abbrev pub AreChangedBy : ℕ → Flags → Type 0
 AreChangedBy r m = (k : List ℕ) (f : Flag) → fin.get m k ≡ Some f → IsChangedBy r f
 
-after_insert : (b : Bool) (o : Option Flag) (r : ℕ) (v f : Flag) → (o ≡ Some f → IsChangedBy r f) → IsChangedBy r v →
+pub after_insert : (b : Bool) (o : Option Flag) (r : ℕ) (v f : Flag) → (o ≡ Some f → IsChangedBy r f) → IsChangedBy r v →
     cond b (Some v) o ≡ Some f → IsChangedBy r f
 after_insert true o r v f was now e = let same : v ≡ f = ap (λ x. unwrap_or x v) e in subst (IsChangedBy r) same now
 after_insert false o r v f was now e = was e

@@ -1,4 +1,5 @@
 pub mod Asking
+pub mod AtOnce
 pub mod Changed
 pub mod Making
 pub mod Followed

@@ -1,25 +1,30 @@
 //! Sets of flags.
 
-ghost use Rattle.std.specs.Prelude.{◌≡◌, ◌+◌, ◌<◌, ◌≤◌, ◌↔◌, ℕ, List, true, None};
+ghost use Rattle.std.specs.Prelude.{◌≡◌, ◌+◌, ◌<◌, ◌≤◌, ◌↔◌, ℕ, List, length, true, None};
 ghost use Rattle.std.specs.Prelude.{IsTrue, All, IfSome, IfOk, OnOk, OnErr, IfErr};
+ghost use Rattle.std.specs.List.{AllByRecursion};
+ghost use Rattle.std.specs.List.Sorted.{IsStrictlySortedBy};
+ghost use Rattle.std.specs.Map.{keys_of};
 ghost use Rattle.std.specs.Option.{option_copied};
 ghost use Rattle.std.specs.FinMap as map;
+ghost use Rattle.fp_base.specs.Bytes.{bytes_cmp};
 ghost use Rattle.fp_definition.specs.Key.{key_bytes};
 ghost use Rattle.fp_edit.specs.Admits.{Admits, accepted, IsRefused, has_revision, has_room};
 ghost use Rattle.fp_edit.specs.Admits.{is_within, next, refusal};
 ghost use Rattle.fp_documents.specs.Document.{document};
-ghost use Rattle.fp_documents.specs.Entries.{entries_of};
+ghost use Rattle.fp_documents.specs.Entries.{entries_of, flags_of};
 ghost use Rattle.fp_documents.specs.Outline.{IsDocumentOf, Outlines, HasAsMany, changed_after};
 ghost use Rattle.fp_edit.specs.Outline.{LeadsTo};
 ghost use Rattle.fp_edit.specs.Edits.{joint, one, parts, proposal_of, set};
 ghost use Rattle.fp_edit.specs.Parts.{any_put, delete, parts_of, put};
 ghost use Rattle.fp_edit.specs.Following.{change_of};
-ghost use Rattle.fp_edit.specs.Flags.{State, IsChangedBy, cost_found, size as size_of};
+ghost use Rattle.fp_edit.specs.Flags.{State, IsChangedBy, cost_found, size as size_of, total_cost};
 ghost use Rattle.fp_documents.specs.declared.flags.Flag.{Flag};
 ghost use Rattle.fp_documents.specs.declared.flags.TheConstants.{IMAGE_HEAD};
 
 use crate::changes::Changes;
 use crate::edit::{Edit, EditFault, REVISIONS_END};
+use crate::sums::size_of_flags;
 use crate::walks::{make_deletes, make_puts};
 use fp_definition::{Definition, FlagKey};
 use fp_documents::{
@@ -345,6 +350,46 @@ impl FlagSet {
         let revision = self.revision;
         self.store_at(key, flag, revision)?;
         Ok(())
+    }
+
+    /// The set of flags that an image holds, at a revision that was made before, under a limit of
+    /// the image in bytes.
+    pub fn of_flags(
+        alloc: Global,
+        revision: u64,
+        limit: u64,
+        flags: Vec<(FlagKey, Flag)>,
+    ) -> Result<FlagSet, AllocError>
+        // It is a revision, or 0: below 2^63.
+        requires numbered { revision < REVISIONS_END }
+        // The keys ascend, each key once.
+        requires ascending { IsStrictlySortedBy bytes_cmp (keys_of (entries_of flags.items)) }
+        // The mark of each, the revision that changed it last, lies from 1 to this one.
+        requires changed { AllByRecursion (λ e. IsChangedBy revision e.1)
+            (entries_of flags.items) }
+        // They are at most 4,096.
+        requires few { length flags.items ≤ MOST_FLAGS }
+        // Their image is within the limit.
+        requires room { IMAGE_HEAD + total_cost (entries_of flags.items) ≤ limit }
+        // `Ok`: it has these flags, at that revision and under that limit.
+        ensures made { IfOk result (λ set. set ≡ record {
+          flags = flags_of flags.items;
+          revision = revision;
+          limit = limit;
+        }) }
+        // `Ok`: they stand in it in this order.
+        ensures entries { IfOk result (λ set. map.entries set.flags ≡ entries_of flags.items) }
+    {
+        let size = size_of_flags(&flags);
+        let flags = flags.into_iter().collect(alloc)?;
+        Ok(FlagSet {
+            flags,
+            revision,
+            limit,
+            size,
+            marks_one: false,
+            alloc,
+        })
     }
 
     /// What the key's flag takes in the image, 0 without one.

@@ -1,14 +1,18 @@
-//! The numbers of a set that its limits bind, while the parts of an edit are made.
+//! The numbers of a set that its limits bind: of flags, and while the parts of an edit are made.
 
 ghost use Rattle.std.specs.Prelude.{◌≡◌, ◌+◌, ◌<◌, ◌≤◌, ◌^◌, ℕ, length};
 ghost use Rattle.std.specs.FinMap as map;
 ghost use Rattle.fp_edit.specs.Admits.{flags_after, part_after};
-ghost use Rattle.fp_edit.specs.Flags.{Flags, State, cost_found, size as size_of};
+ghost use Rattle.fp_edit.specs.Flags.{Flags, State, cost_found, size as size_of, total_cost};
 ghost use Rattle.fp_edit.specs.Lent.{lent, lent_change, lent_parts};
 ghost use Rattle.fp_edit.specs.Parts.{part_key};
+ghost use Rattle.fp_documents.specs.Entries.{entries_of};
+ghost use Rattle.fp_documents.specs.declared.flags.TheConstants.{IMAGE_HEAD};
 
 use crate::changes::MOST_CHANGES;
 use crate::lent::{EditParts, LentPart};
+use fp_definition::FlagKey;
+use fp_documents::{Flag, IMAGE_HEAD, cost_of};
 
 /// The number of flags and the bytes of their image.
 #[derive(Clone, Copy)]
@@ -64,4 +68,16 @@ pub fn most_with(sums: Sums, parts: EditParts<'_>) -> Sums
         most = sums_after(most, parts.lend(i), 0);
     }
     most
+}
+
+/// What the image of these flags takes.
+pub fn size_of_flags(flags: &[(FlagKey, Flag)]) -> u64
+    requires { IMAGE_HEAD + total_cost (entries_of flags.now) < 2 ^ 64 }
+    ensures { result ≡ IMAGE_HEAD + total_cost (entries_of flags.now) }
+{
+    let mut size = IMAGE_HEAD;
+    for (key, flag) in flags {
+        size += cost_of(key, &flag.definition) as u64;
+    }
+    size
 }

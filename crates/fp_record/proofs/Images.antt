@@ -160,7 +160,7 @@ pub record AreFlags (newest n : ℕ) (found : List Keyed) : Type 0 where
   pub changed : AreUpTo newest found
   pub ascending : IsStrictlySortedBy bytes_cmp (keys found)
 
-pub many_flags : (newest : ℕ) (bytes : List ℕ) (n at : ℕ) (x : List Keyed × (List ℕ × ℕ)) → IsBytes bytes →
+many_flags : (newest : ℕ) (bytes : List ℕ) (n at : ℕ) (x : List Keyed × (List ℕ × ℕ)) → IsBytes bytes →
     at ≤ length bytes → many_from (flag_at newest bytes) n ([], at) ≡ Ok x
     → Takes bytes at (flat_map encoding_of_flag x.0) x.1.1 × AreFlags newest n x.0
 many_flags newest bytes n at x fits within e =
@@ -169,7 +169,7 @@ many_flags newest bytes n at x fits within e =
     let lawful = all_flags newest ([], at) x.0 x.1 all.2 in
     (all.0, record { count = all.1; flags = lawful.0.0; changed = lawful.0.1; ascending = lawful.2 })
 
-pub flags_take : (newest : ℕ) (bytes : List ℕ) (n at : ℕ) (x : List Keyed × ℕ) → IsBytes bytes → at ≤ length bytes →
+flags_take : (newest : ℕ) (bytes : List ℕ) (n at : ℕ) (x : List Keyed × ℕ) → IsBytes bytes → at ≤ length bytes →
     flags_at newest n bytes at ≡ Ok x → Takes bytes at (flat_map encoding_of_flag x.0) x.1 × AreFlags newest n x.0
 unfolding flags_at
 flags_take newest bytes n at x fits within e =
@@ -206,7 +206,7 @@ flags_again newest bytes at flags rest is old ascending h =
 
 -- ---- images
 
-pub flag_count_takes : (bytes : List ℕ) (x : ℕ × ℕ) → IsBytes bytes → flag_count bytes ≡ Ok x →
+flag_count_takes : (bytes : List ℕ) (x : ℕ × ℕ) → IsBytes bytes → flag_count bytes ≡ Ok x →
     Takes bytes 0 (to_be_bytes w32 x.0) x.1 × (x.0 ≤ MOST_FLAGS)
 unfolding flag_count
 flag_count_takes bytes x fits e =
@@ -285,13 +285,12 @@ image_alone v w x y is_v is_w e =
     one_reading bytes (image_at any_revision bytes) v w a.0 b.0 x y a.1 b.1 a.2 b.2
 
 -- what an image owes by itself, of one that was read
-pub ordered_flags : (flags : List Keyed) → AllByRecursion IsFlag flags → AllByRecursion (λ f. 0 < f.1.changed) flags
+ordered_flags : (flags : List Keyed) → AllByRecursion IsFlag flags → AllByRecursion (λ f. 0 < f.1.changed) flags
 ordered_flags [] h = tt
 ordered_flags (flag ∷ flags) h = (h.0.some, ordered_flags flags h.1)
 
-pub read_in_order : (newest : ℕ) (bytes : List ℕ) (n at : ℕ) (x : List Keyed × ℕ) → IsBytes bytes →
-    at ≤ length bytes → n ≤ MOST_FLAGS → flags_at newest n bytes at ≡ Ok x → IsOrdered x.0
-read_in_order newest bytes n at x fits within few e =
-    let are = (flags_take newest bytes n at x fits within e).1 in
-    let count = are.count in
-    record { few = omega (arith, count, few); ascending = are.ascending; changed = ordered_flags x.0 are.flags }
+pub read_in_order : (newest : ℕ) (bytes : List ℕ) (x : List Keyed × ℕ) → IsBytes bytes → image_at newest bytes ≡ Ok x
+    → IsOrdered x.0
+read_in_order newest bytes x fits e =
+    let is = (image_takes newest bytes x fits e).1 in
+    record { few = is.few; ascending = is.ascending; changed = ordered_flags x.0 is.flags }

@@ -74,7 +74,7 @@ length-encoding_of_flag flag =
       length-encoding_of_definition flag.1.definition,
     )
 
-pub length-flags : (flags : List (List ℕ × Flag)) → length (flat_map encoding_of_flag flags) ≡ total_cost flags
+length-flags : (flags : List (List ℕ × Flag)) → length (flat_map encoding_of_flag flags) ≡ total_cost flags
 length-flags [] = refl
 length-flags (flag ∷ flags) = rw flat_map-cons
     (omega (

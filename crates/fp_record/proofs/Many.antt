@@ -1,6 +1,6 @@
 -- One after the other: what is read so is spelled so, and what is spelled so is read.
 use Rattle.std.proofs.Common.{◌≡◌, ℕ, zero, suc, ◌+◌, ◌-◌, ◌<◌, ◌≤◌, List, [], ◌∷◌, ◌++◌, length, Result, Ok, Err}
-use Rattle.std.proofs.Common.{add-one, refl, sym, ap, subst, ◌∙◌, append_assoc, arith}
+use Rattle.std.proofs.Common.{refl, ap, subst, ◌∙◌, append_assoc, arith}
 use Rattle.std.specs.List.{flat_map}
 use Rattle.std.proofs.lemmas.List.Concat.{flat_map-cons}
 use Rattle.fp_base.specs.Steps.{◌>>=◌}
@@ -99,10 +99,6 @@ pub one_more : {A S : Type 0} (step : S → Result (A × S) ℕ) (n : ℕ) (s : 
     many_from step n s ≡ Ok x → step x.1 ≡ Ok y → many_from step (n + 1) s ≡ Ok (x.0 ++ y.0 ∷ [], y.1)
 unfolding many_from
 one_more step n s x y e h = many_split step n 1 (n + 1) s x refl e ∙ rw h (refl {a = Ok (x.0 ++ y.0 ∷ [], y.1)})
-
-pub many_more : {A S : Type 0} (step : S → Result (A × S) ℕ) (n : ℕ) (s : S) (x : List A × S) (y : A × S) →
-    many_from step n s ≡ Ok x → step x.1 ≡ Ok y → many_from step (suc n) s ≡ Ok (x.0 ++ y.0 ∷ [], y.1)
-many_more step n s x y e h = ap (λ (k : ℕ). many_from step k s) (sym (add-one n)) ∙ one_more step n s x y e h
 
 -- where the one behind those that were read isn't there, no more are
 pub many_stops : {A S : Type 0} (step : S → Result (A × S) ℕ) (n count : ℕ) (s : S) (x : List A × S) (at : ℕ) →

@@ -15,8 +15,8 @@ ghost use Rattle.fp_record.specs.declared.fault.RecordFault.TheVariants.{Memory}
 use crate::batch::{DELETE_KIND, PUT_KIND, SET_KIND};
 use crate::fault::RecordFault;
 use crate::fields::{definition_from, key_of, key_text_at, u8_at, u16_at};
-use fp_definition::LONGEST_KEY;
-use fp_edit::{Change, Changes, Edit, Expect, LONGEST_EDIT, MOST_CHANGES, MetKeys};
+use fp_definition::{Definition, FlagKey, LONGEST_KEY};
+use fp_edit::{Change, Changes, Edit, Expect, FlagSet, LONGEST_EDIT, MOST_CHANGES, MetKeys};
 use std::alloc::Global;
 
 // The text of a key that was not met before, and the place behind it. It is met then.
@@ -40,9 +40,18 @@ fn new_key_from<'a>(
     Ok((text, next))
 }
 
+// The definition of a flag, if the set has it.
+fn definition_under<'s>(set: Option<&'s FlagSet>, key: &FlagKey) -> Option<&'s Definition> {
+    match set?.get(key) {
+        Some(flag) => Some(&flag.definition),
+        None => None,
+    }
+}
+
 // The put of this key with the definition that is there, and the place behind it.
 fn put_with(
     alloc: Global,
+    set: Option<&FlagSet>,
     bytes: &[u8],
     key: &str,
     at: usize,
@@ -55,7 +64,7 @@ fn put_with(
     ensures within { IfOk result (λ x. x.1 ≤ length bytes.now) }
 {
     let key = key_of(alloc, key)?;
-    let (flag, next) = definition_from(alloc, bytes, at)?;
+    let (flag, next) = definition_from(alloc, bytes, at, definition_under(set, &key))?;
     let expect = Expect::Any;
     Ok((Change::Put { key, flag, expect }, next))
 }
@@ -76,6 +85,7 @@ fn delete_of(alloc: Global, key: &str) -> Result<Change, RecordFault>
 #[tactic(auto, unfolding(crate::specs::Reading::put_at))]
 fn put_from<'a>(
     alloc: Global,
+    set: Option<&FlagSet>,
     bytes: &'a [u8],
     met: &mut MetKeys<'a>,
     at: usize,
@@ -88,7 +98,7 @@ fn put_from<'a>(
     ensures within { IfOk result (λ x. x.1 ≤ length bytes.now) }
 {
     let (key, next) = new_key_from(bytes, met, at)?;
-    put_with(alloc, bytes, key, next)
+    put_with(alloc, set, bytes, key, next)
 }
 
 // What stands behind that of a deletion.
@@ -115,6 +125,7 @@ fn delete_from<'a>(
 #[tactic(auto, unfolding(crate::specs::Reading::part_at))]
 fn part_from<'a>(
     alloc: Global,
+    set: Option<&FlagSet>,
     bytes: &'a [u8],
     met: &mut MetKeys<'a>,
     at: usize,
@@ -128,7 +139,7 @@ fn part_from<'a>(
 {
     let (kind, next) = u8_at(bytes, at)?;
     match kind {
-        PUT_KIND => put_from(alloc, bytes, met, next),
+        PUT_KIND => put_from(alloc, set, bytes, met, next),
         DELETE_KIND => delete_from(alloc, bytes, met, next),
         _ => Err(RecordFault::BadRecord { at }),
     }
@@ -136,7 +147,12 @@ fn part_from<'a>(
 
 // The change to one flag at this place, of whatever key, and the place behind it.
 #[tactic(auto, unfolding(crate::specs::Reading::part_at))]
-fn single_from(alloc: Global, bytes: &[u8], at: usize) -> Result<(Change, usize), RecordFault>
+fn single_from(
+    alloc: Global,
+    set: Option<&FlagSet>,
+    bytes: &[u8],
+    at: usize,
+) -> Result<(Change, usize), RecordFault>
     requires { at ≤ length bytes.now }
     ensures free { IfOk result (λ x. proposed_of x.0 ≡ free (proposed_of x.0).part) }
     ensures value { Gives (λ x. ((proposed_of x.0).part, x.1)) Tells result
@@ -145,7 +161,7 @@ fn single_from(alloc: Global, bytes: &[u8], at: usize) -> Result<(Change, usize)
 {
     let (kind, next) = u8_at(bytes, at)?;
     match kind {
-        PUT_KIND => single_put_from(alloc, bytes, next),
+        PUT_KIND => single_put_from(alloc, set, bytes, next),
         DELETE_KIND => single_delete_from(alloc, bytes, next),
         _ => Err(RecordFault::BadRecord { at }),
     }
@@ -153,7 +169,12 @@ fn single_from(alloc: Global, bytes: &[u8], at: usize) -> Result<(Change, usize)
 
 // What stands behind the kind of its put.
 #[tactic(auto, unfolding(crate::specs::Reading::new_key_at, crate::specs::Reading::put_at))]
-fn single_put_from(alloc: Global, bytes: &[u8], at: usize) -> Result<(Change, usize), RecordFault>
+fn single_put_from(
+    alloc: Global,
+    set: Option<&FlagSet>,
+    bytes: &[u8],
+    at: usize,
+) -> Result<(Change, usize), RecordFault>
     requires { at ≤ length bytes.now }
     ensures free { IfOk result (λ x. proposed_of x.0 ≡ free (proposed_of x.0).part) }
     ensures value { Gives (λ x. ((proposed_of x.0).part, x.1)) Tells result
@@ -161,7 +182,7 @@ fn single_put_from(alloc: Global, bytes: &[u8], at: usize) -> Result<(Change, us
     ensures within { IfOk result (λ x. x.1 ≤ length bytes.now) }
 {
     let (key, next) = key_text_at(bytes, at)?;
-    put_with(alloc, bytes, key, next)
+    put_with(alloc, set, bytes, key, next)
 }
 
 // What stands behind that of its deletion.
@@ -200,6 +221,7 @@ fn part_count_from(bytes: &[u8], at: usize) -> Result<(u16, usize), RecordFault>
 #[tactic(auto, unfolding(crate::specs::Reading::many_from))]
 fn parts_from(
     alloc: Global,
+    set: Option<&FlagSet>,
     bytes: &[u8],
     count: u16,
     at: usize,
@@ -215,7 +237,7 @@ fn parts_from(
     let mut parts = Vec::new(alloc);
     let mut place = at;
     for _ in 0..count {
-        let (part, next) = part_from(alloc, bytes, &mut met, place)?;
+        let (part, next) = part_from(alloc, set, bytes, &mut met, place)?;
         parts.push(part)?;
         place = next;
     }
@@ -227,6 +249,7 @@ fn parts_from(
 #[tactic(auto, unfolding(crate::specs::Reading::set_at))]
 fn set_from(
     alloc: Global,
+    set: Option<&FlagSet>,
     bytes: &[u8],
     kind: usize,
     at: usize,
@@ -237,7 +260,7 @@ fn set_from(
     ensures within { IfOk result (λ x. x.1 ≤ length bytes.now) }
 {
     let (count, next) = part_count_from(bytes, at)?;
-    let (parts, next) = parts_from(alloc, bytes, count, next)?;
+    let (parts, next) = parts_from(alloc, set, bytes, count, next)?;
     if next > kind + LONGEST_EDIT {
         return Err(RecordFault::BadRecord { at: kind });
     }
@@ -246,9 +269,15 @@ fn set_from(
 }
 
 /// The edit at this place, by an editor that expects nothing, and the place behind it. For who
-/// makes the edits of a batch one by one.
+/// makes the edits of a batch one by one. A definition for a flag of the set, if there is one, is
+/// read beside the flag's.
 #[tactic(auto, unfolding(crate::specs::Reading::change_at))]
-pub fn edit_from(alloc: Global, bytes: &[u8], at: usize) -> Result<(Edit, usize), RecordFault>
+pub fn edit_from(
+    alloc: Global,
+    set: Option<&FlagSet>,
+    bytes: &[u8],
+    at: usize,
+) -> Result<(Edit, usize), RecordFault>
     // The place lies within the bytes, or at their end.
     requires { at ≤ length bytes.now }
     // `Ok`: its editor expects nothing, of no change of a set either.
@@ -260,9 +289,9 @@ pub fn edit_from(alloc: Global, bytes: &[u8], at: usize) -> Result<(Edit, usize)
 {
     let (kind, next) = u8_at(bytes, at)?;
     if kind == SET_KIND {
-        return set_from(alloc, bytes, at, next);
+        return set_from(alloc, set, bytes, at, next);
     }
-    let (change, next) = single_from(alloc, bytes, at)?;
+    let (change, next) = single_from(alloc, set, bytes, at)?;
     Ok((Edit::from(change), next))
 }
 
@@ -283,7 +312,7 @@ pub fn edits_from(
     let mut edits = Vec::new(alloc);
     let mut place = at;
     for _ in 0..count {
-        let (edit, next) = edit_from(alloc, bytes, place)?;
+        let (edit, next) = edit_from(alloc, None, bytes, place)?;
         edits.push(edit)?;
         place = next;
     }

@@ -19,7 +19,7 @@ ghost use Rattle.fp_record.specs.Encoding.{encoding_of_image, encoding_of_flag};
 use crate::fault::RecordFault;
 use crate::fields::{definition_from, key_of, key_text_at, u32_at, u64_at};
 use crate::writing::{put_definition, put_key, put_u32, put_u64};
-use fp_definition::{FlagKey, LONGEST_KEY};
+use fp_definition::{Definition, FlagKey, LONGEST_KEY};
 use fp_edit::{Flag, FlagSet, MOST_FLAGS};
 use std::alloc::{AllocError, Global};
 use std::marker::Model;
@@ -195,36 +195,33 @@ fn changed_from(bytes: &[u8], newest: u64, at: usize) -> Result<(u64, usize), Re
     Ok((changed, next))
 }
 
-/// A flag that was read, its key's text, and the place behind it.
+// A flag that was read, its key's text, and the place behind it.
 #[derive(Drop)]
-pub struct FoundFlag<'a> {
-    pub flag: (FlagKey, Flag),
-    pub text: &'a str,
-    pub next: usize,
+struct FoundFlag<'a> {
+    flag: (FlagKey, Flag),
+    text: &'a str,
+    next: usize,
 }
 
-/// The flag at this place, under a key above the one before, changed at the newest revision or
-/// before. For who reads an image flag by flag.
+// The flag at this place, under a key above the one before, changed at the newest revision or
+// before. Its definition is read beside another, if there is one that it may be like.
 #[tactic(auto, unfolding(crate::specs::Reading::flag_at))]
-pub fn flag_from<'a>(
+fn flag_from<'a>(
     alloc: Global,
     bytes: &'a [u8],
     newest: u64,
     before: &[u8],
+    other: Option<&Definition>,
     at: usize,
 ) -> Result<FoundFlag<'a>, RecordFault>
-    // The place lies within the bytes, or at their end.
     requires { at ≤ length bytes.now }
-    // The flag that stands there, its key's text and the place behind it, or the first field that
-    // can't stand there, or `Memory`.
     ensures value { Gives (λ x. (entry_of x.flag, (x.text.now, x.next))) Tells result
         (flag_at newest bytes.now (before.now, at)) }
-    // `Ok`: the place behind it lies within the bytes, or at their end.
     ensures within { IfOk result (λ x. x.next ≤ length bytes.now) }
 {
     let (text, next) = key_text_above(bytes, before, at)?;
     let (changed, next) = changed_from(bytes, newest, next)?;
-    let (definition, next) = definition_from(alloc, bytes, next)?;
+    let (definition, next) = definition_from(alloc, bytes, next, other)?;
     let key = key_of(alloc, text)?;
     let flag = (
         key,
@@ -234,6 +231,14 @@ pub fn flag_from<'a>(
         },
     );
     Ok(FoundFlag { flag, text, next })
+}
+
+// The definition of the last of these flags.
+fn last_of(flags: &[(FlagKey, Flag)]) -> Option<&Definition> {
+    match flags.last() {
+        Some(last) => Some(&last.1.definition),
+        None => None,
+    }
 }
 
 #[tactic(auto, unfolding(crate::specs::Reading::many_from, crate::specs::Reading::flags_at))]
@@ -254,7 +259,7 @@ fn flags_from(
     let mut before: &[u8] = &[];
     let mut place = at;
     for _ in 0..count {
-        let found = flag_from(alloc, bytes, newest, before, place)?;
+        let found = flag_from(alloc, bytes, newest, before, last_of(&flags), place)?;
         flags.push(found.flag)?;
         before = found.text.as_bytes();
         place = found.next;
@@ -262,16 +267,11 @@ fn flags_from(
     Ok((flags, place))
 }
 
-/// How many flags an image has, and the place of the first. For who reads an image flag by flag.
+// How many flags an image has, and the place of the first.
 #[tactic(auto, unfolding(crate::specs::Reading::flag_count))]
-pub fn flag_count_from(bytes: &[u8]) -> Result<(u32, usize), RecordFault>
-    // The count at the front, or `BadRecord` at 0.
+fn flag_count_from(bytes: &[u8]) -> Result<(u32, usize), RecordFault>
     ensures value { Gives (λ x. x) Tells result (flag_count bytes.now) }
-    // `Ok`: the place behind it lies within the bytes, or at their end.
     ensures within { IfOk result (λ x. x.1 ≤ length bytes.now) }
-    // `Ok`: at most `MOST_FLAGS`.
-    ensures few { IfOk result (λ x. x.0 ≤ MOST_FLAGS) }
-    // It takes no memory, and never answers `Memory`.
     ensures no_memory { IfErr result (λ e. e ≢ Memory) }
 {
     let (count, next) = u32_at(bytes, 0)?;
@@ -281,23 +281,33 @@ pub fn flag_count_from(bytes: &[u8]) -> Result<(u32, usize), RecordFault>
     Ok((count, next))
 }
 
+/// The flags of the image at the front of the bytes, changed at the newest revision or before, and
+/// the place behind them. For who makes a set of them.
 #[tactic(auto, unfolding(crate::specs::Reading::image_at))]
-fn image_from(alloc: Global, bytes: &[u8]) -> Result<(Image, usize), RecordFault>
-    ensures value { Gives (λ x. x) Tells result (image_at any_revision bytes.now) }
+pub fn flags_of_image(
+    alloc: Global,
+    bytes: &[u8],
+    newest: u64,
+) -> Result<(Vec<(FlagKey, Flag)>, usize), RecordFault>
+    // The flags that stand there and the place behind them, or the first field that can't stand
+    // there, or `Memory`.
+    ensures value { Gives (λ x. (entries_of x.0.items, x.1)) Tells result
+        (image_at newest bytes.now) }
+    // `Ok`: the place behind them lies within the bytes, or at their end.
     ensures within { IfOk result (λ x. x.1 ≤ length bytes.now) }
 {
     let (count, at) = flag_count_from(bytes)?;
-    let (flags, next) = flags_from(alloc, bytes, u64::MAX, count, at)?;
-    Ok((Image { flags }, next))
+    let (flags, next) = flags_from(alloc, bytes, newest, count, at)?;
+    Ok((flags, next))
 }
 
 #[tactic(auto, unfolding(crate::specs::Reading::image_in))]
 fn whole_image(alloc: Global, bytes: &[u8]) -> Result<Image, RecordFault>
     ensures { Gives (λ image. image) Tells result (image_in any_revision bytes.now) }
 {
-    let (image, next) = image_from(alloc, bytes)?;
+    let (flags, next) = flags_of_image(alloc, bytes, u64::MAX)?;
     if next < bytes.len() {
         return Err(RecordFault::BadRecord { at: next });
     }
-    Ok(image)
+    Ok(Image { flags })
 }

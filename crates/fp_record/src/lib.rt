@@ -15,7 +15,7 @@ pub use batch::{
 pub use edits::edit_from;
 pub use fault::RecordFault;
 pub use fields::{u8_at, u64_at};
-pub use image::{FoundFlag, Image, flag_count_from, flag_from};
+pub use image::{Image, flags_of_image};
 pub use laws::{
     batches_stand_alone, batches_take_their_changes, images_stand_alone,
     images_take_their_sets_size,

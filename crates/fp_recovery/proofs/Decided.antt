@@ -17,6 +17,7 @@ use Rattle.fp_journal.specs.Holds.{Holds}
 use Rattle.fp_journal.specs.Reading.{Breaks, FoundChain, IsChain, IsClosed, IsNext, Reads, StopsAt, no_gate, no_length}
 use Rattle.fp_journal.specs.Reading.{too_long, no_body, length_at}
 use Rattle.fp_journal.specs.declared.slot.Slot.{Slot}
+use Rattle.fp_edit.proofs.AtOnce.{sorted_image}
 use Rattle.fp_journal.proofs.Holds.{byte_held, held_range, holds_append, holds_back, holds_byte}
 use Rattle.fp_journal.proofs.Links.{HasRead, read_all, read_more, read_none, reads_more}
 use Rattle.fp_layout.specs.Faults.{BreaksHead, bad_size, no_base, no_generation, no_image, no_version, not_zero, too_short}
@@ -37,7 +38,7 @@ use Rattle.fp_recovery.specs.Refusals.{BeginsWith, RefusesBatch, RefusesBytes, R
 use Rattle.fp_recovery.specs.Stands.{IsImageOf, StandsFor, TakesBatch}
 use Rattle.fp_recovery.proofs.Parts.{most_small}
 use Rattle.fp_recovery.proofs.Read.{batch_is, image_is, image_stands}
-use Rattle.fp_recovery.proofs.Restored.{sets_read, sorted_image}
+use Rattle.fp_recovery.proofs.Restored.{sets_read}
 use Rattle.fp_recovery.proofs.Texts.{read_stands}
 
 -- ---- batches that were taken one after the other

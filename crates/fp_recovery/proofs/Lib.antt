@@ -4,8 +4,6 @@ pub mod Reach
 pub mod Allowed
 pub mod Faults
 pub mod Read
-pub mod InOrder
-pub mod Flags
 pub mod Agreed
 pub mod Kept
 pub mod Texts

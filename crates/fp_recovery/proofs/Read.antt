@@ -8,9 +8,10 @@ use Rattle.std.proofs.lemmas.Bool.{eqb-true, eq-eqb, ne_eqb, leb-true, le-leb, l
 use Rattle.fp_base.specs.Steps.{◌>>=◌}
 use Rattle.fp_edit.specs.Admits.{refusal, next}
 use Rattle.fp_edit.specs.Edits.{Change}
-use Rattle.fp_edit.specs.Flags.{State}
+use Rattle.fp_edit.specs.Flags.{State, IsChangedBy, total_cost}
 use Rattle.fp_edit.specs.declared.edit.TheConstants.{REVISIONS_END}
 use Rattle.fp_documents.specs.declared.flags.Flag.{Flag}
+use Rattle.fp_documents.specs.declared.flags.TheConstants.{IMAGE_HEAD}
 use Rattle.fp_edit.proofs.Followed.{change-unconditional}
 use Rattle.fp_journal.specs.Reading.{IsWrong}
 use Rattle.fp_record.specs.Encoding.{encoding_of_image}
@@ -19,7 +20,7 @@ use Rattle.fp_record.specs.Group.{Group}
 use Rattle.fp_record.specs.Reading.{many_from, change_at, changes_at, count_at, batch_at, batch_in, image_at, image_in, whole}
 use Rattle.fp_record.specs.declared.fault.RecordFault.{RecordFault}
 use Rattle.fp_record.specs.declared.fault.RecordFault.TheVariants as fault
-use Rattle.fp_record.specs.WellFormed.{IsImage}
+use Rattle.fp_record.specs.WellFormed.{IsFlag, IsImage}
 use Rattle.fp_record.proofs.Batches.{batch_spelled, batch_found}
 use Rattle.fp_record.proofs.Images.{AreUpTo, image_spelled, image_found}
 use Rattle.fp_record.proofs.Inside.{Inside, inside_then, inside_if, change_inside, count_inside, first_inside}
@@ -273,6 +274,17 @@ image_is base limit bytes image fits e =
       spelled = spelled.2;
     }
 
+-- the flags can stand in a set
+pub marks_read : (base : ℕ) (image : List (List ℕ × Flag)) → AllByRecursion IsFlag image → AreUpTo base image →
+    AllByRecursion (λ e. IsChangedBy base e.1) image
+marks_read base [] lawful old = tt
+marks_read base (e ∷ es) lawful old = ((lawful.0.some, old.0), marks_read base es lawful.1 old.1)
+
+pub room_read : (base limit : ℕ) (bytes : List ℕ) (image : List (List ℕ × Flag)) → IsRead base limit bytes image →
+    IMAGE_HEAD + total_cost image ≤ limit
+room_read base limit bytes image r = let len = ap length r.spelled ∙ length-encoding_of_image image in
+    let short = r.short in omega (arith, len, short)
+
 pub image_back : (base limit : ℕ) (bytes : List ℕ) (s : State) → IsImageOf base limit bytes s →
     image_under base limit bytes ≡ Ok (fin.entries s.flags)
 unfolding image_under
@@ -309,10 +321,8 @@ pub image_stands : (base limit : ℕ) (bytes : List ℕ) (s : State) → IsBytes
     IsImageOf base limit bytes s
 image_stands base limit bytes s fits read revision limit_is =
     let r = image_is base limit bytes (fin.entries s.flags) fits read in
-    let len = ap length r.spelled ∙ length-encoding_of_image (fin.entries s.flags) in
-    let short = r.short in
     let here : IsImageAt base limit (fin.entries s.flags) =
-    record { numbered = r.numbered; changed = r.changed; within = omega (arith, len, short) } in
+    record { numbered = r.numbered; changed = r.changed; within = room_read base limit bytes (fin.entries s.flags) r } in
     image_of base limit bytes (fin.entries s.flags) s r.lawful r.spelled here refl revision limit_is
 
 -- ---- places

@@ -1,39 +1,16 @@
 -- Sets on their way back.
-use Rattle.std.proofs.Common.{T, Less, ◌≡◌, ◌≤◌, ◌&&◌, ℕ, true, leb, Bool, false, List, [], ◌∷◌, ◌++◌, length, map}
-use Rattle.std.proofs.Common.{refl, sym, ap, subst, ◌∙◌, arith}
-use Rattle.std.specs.List.{AllByRecursion}
+use Rattle.std.proofs.Common.{◌≡◌, ◌≤◌, ℕ, List, [], ◌∷◌, length, refl, sym, ap, subst, ◌∙◌, arith}
 use Rattle.std.specs.FinMap as fin
-use Rattle.std.proofs.lemmas.Bool.{le-leb}
-use Rattle.std.specs.List.Sorted.{IsStrictlySortedBy}
-use Rattle.std.specs.Ordering.{is_lt}
-use Rattle.std.specs.FinMap.Entries.{below_all, is_sorted}
 use Rattle.fp_base.specs.Bytes.{bytes_cmp}
 use Rattle.fp_record.specs.WellFormed.{IsImage}
 use Rattle.fp_record.specs.Encoding.{encoding_of_image}
 use Rattle.fp_record.proofs.Lengths.{length-encoding_of_image}
-use Rattle.fp_edit.specs.Flags.{State, Flags, size}
-use Rattle.fp_edit.specs.declared.flag_set.TheConstants.{MOST_FLAGS}
+use Rattle.fp_edit.specs.Flags.{State, Flags}
 use Rattle.fp_documents.specs.declared.flags.Flag.{Flag}
 use Rattle.fp_edit.specs.Edits.{Change}
-use Rattle.fp_edit.specs.Admits.{is_within}
 use Rattle.fp_journal.specs.Reading.{Reads}
 use Rattle.fp_recovery.specs.Refusals.{Replayed, TakesBody}
 use Rattle.fp_recovery.specs.Stands.{Leads, IsImageAt, IsImageOf, TakesBatch}
-
-pub All-right : {X : Type 0} (P : X → Type 0) (xs ys : List X) → AllByRecursion P (xs ++ ys) → AllByRecursion P ys
-All-right P [] ys h = h
-All-right P (x ∷ xs) ys h = All-right P xs ys h.1
-
--- as many flags as a set may have, and an image as long as it may be
-pub has_room : (m : Flags) (limit : ℕ) → length (fin.entries m) ≤ MOST_FLAGS → size m ≤ limit → is_within m limit ≡ true
-has_room m limit few small =
-    let count : fin.len m ≡ length (fin.entries m) = fin.len-entries m in
-    let count_fits : fin.len m ≤ MOST_FLAGS = omega (arith, count, few) in
-    both (leb (fin.len m) MOST_FLAGS) (leb (size m) limit) (le-leb (fin.len m) MOST_FLAGS count_fits) (le-leb (size m) limit small)
-  where
-    both : (a b : Bool) → a ≡ true → b ≡ true → (a && b) ≡ true
-    both true b p q = q
-    both false b p q = p
 
 -- ---- images
 entries_none : (es : List (List ℕ × Flag)) → length es ≡ 0 → es ≡ []
@@ -45,20 +22,6 @@ No_flags = fin.empty
 
 pub entries-empty : fin.entries No_flags ≡ []
 entries-empty = entries_none (fin.entries No_flags) (sym (fin.len-entries No_flags) ∙ fin.len-empty bytes_cmp Flag)
-
-both : (a b : Bool) → T a → T b → T (a && b)
-both true b p q = q
-both false b p q = p
-
-below : (x : List ℕ) (es : List (List ℕ × Flag)) → AllByRecursion (λ y. bytes_cmp x y ≡ Less) (map (λ f. f.0) es) →
-    T (below_all bytes_cmp x es)
-below x [] h = tt
-below x (e ∷ es) h = both _ _ (subst (λ o. T (is_lt o)) (sym h.0) tt) (below x es h.1)
-
-pub sorted_image : (es : List (List ℕ × Flag)) → IsStrictlySortedBy bytes_cmp (map (λ f. f.0) es) → T (is_sorted bytes_cmp es)
-unfolding IsStrictlySortedBy
-sorted_image [] h = tt
-sorted_image (e ∷ es) h = both _ _ (below e.0 es h.0) (sorted_image es h.1)
 
 pub image_within : (base limit : ℕ) (bytes : List ℕ) (s : State) → IsImageOf base limit bytes s → length bytes ≤ limit
 image_within base limit bytes s h = let len = ap length h.spelled ∙ length-encoding_of_image (fin.entries s.flags) in

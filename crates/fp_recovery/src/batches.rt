@@ -69,7 +69,7 @@ fn make_edit(
     ensures within { IfOk result (λ next. next ≤ length bytes.now) }
 {
     kind_from(bytes, version, at)?;
-    let (edit, next) = edit_from(alloc, bytes, at)?;
+    let (edit, next) = edit_from(alloc, Some(set), bytes, at)?;
     let Err((fault, edit)) = set.admit(edit) else {
         return Ok(next);
     };

@@ -15,8 +15,10 @@ code_row_shared = search (sendable, code_shared) depth 10
 
 pub rule_sent : IsSend rule.the_row
 rule_sent = view_send _ _ _ _ _
-    (recorded_send _ _ _ (rule_inside.the_type).to_one (struct_send (shape rule_inside.the_type) (Arc-send _ code_row_sent code_row_shared, tt)))
+    (recorded_send _ _ _ (rule_inside.the_type).to_one
+    (struct_send (shape rule_inside.the_type) (Arc-send _ code_row_sent code_row_shared, tt)))
 
 pub rule_shared : IsSync rule.the_row
 rule_shared = view_sync _ _ _ _ _
-    (recorded_sync _ _ _ (rule_inside.the_type).to_one (struct_sync (shape rule_inside.the_type) (Arc-sync _ code_row_sent code_row_shared, tt)))
+    (recorded_sync _ _ _ (rule_inside.the_type).to_one
+    (struct_sync (shape rule_inside.the_type) (Arc-sync _ code_row_sent code_row_shared, tt)))

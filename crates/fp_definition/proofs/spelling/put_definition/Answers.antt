@@ -23,6 +23,6 @@ returns-in-Object-clause-noted c =
     let before = c.args.spelled.now in let after = c.put_members.new.spelled in
     on_ok_weaker c.put_members.result
     (λ h ms is. subst (λ ns. AreNoted before.text.items (option_map (λ v. v.items) before.variants)
-    before.metadata ns ns
-    → AreNoted after.text.items (option_map (λ v. v.items) after.variants) after.metadata no_members ns)
+    before.places ns ns
+    → AreNoted after.text.items (option_map (λ v. v.items) after.variants) after.places no_members ns)
     (same _ ms (sym seen ∙ is)) h) c.put_members.ensures.noted

@@ -6,7 +6,7 @@ use Rattle.serde_json.specs.Written.{compact_text}
 use Rattle.fp_base.specs.TreeView.{tree_view}
 use Rattle.fp_definition.specs.Spelled.{at, AreIn, AreNoted, IsWithin}
 use Rattle.fp_definition.specs.declared.spelling.Place.{Place}
-use Rattle.fp_definition.proofs.Spelled.{at_new, is_noted, none_at, none_noted, noted_metadata, noted_other, noted_variants}
+use Rattle.fp_definition.proofs.Spelled.{at_new, is_noted, none_noted, noted_places, noted_variants}
 use Rattle.fp_definition.proofs.spelling.put_member.Goals as goal
 
 pub returns-then-is_first-clause-noted : goal.returns-then-is_first-clause-noted
@@ -16,33 +16,23 @@ returns-then-is_first-clause-noted c = λ left all h.
     let new : c.is_none.result ≡ not (is_some old.variants) = search rules in
     let both = and_parts (bytes_eq name (codes "variants")) c.is_none.result (sym c.is_first.ensures ∙ c.if-is_first.true) in
     let text = c.in_ok-variants.ensures.text in
-    subst (λ xs. AreNoted xs (Some vs) old.metadata left all) (sym text)
-    (noted_variants old.text.items (compact_text d) (option_map (λ v. v.items) old.variants) old.metadata name d left all vs
+    subst (λ xs. AreNoted xs (Some vs) old.places left all) (sym text)
+    (noted_variants old.text.items (compact_text d) (option_map (λ v. v.items) old.variants) old.places name d left all vs
     both.0 (none_noted old.variants (sym new ∙ both.1)) (subst (λ xs. AreIn xs vs (Some d)) text c.in_ok-variants.ensures.noted) h)
 
-pub returns-then-is_first-2-clause-noted : goal.returns-then-is_first-2-clause-noted
-returns-then-is_first-2-clause-noted c = λ left all h.
+pub returns-clause-noted : goal.returns-clause-noted
+returns-clause-noted c = λ left all h.
     let name = c.args.name.now in let d = tree_view c.args.value.now in let old = c.args.spelled.now in
-    let new : c.is_none-2.result ≡ not (is_some old.metadata) = search rules in
+    let vs = option_map (λ v. v.items) old.variants in
+    let new : c.is_none.result ≡ not (is_some old.variants) = search rules in
     let p : Place = record { start = c.len-start.result; end = c.len-end.result } in
-    let both = and_parts (bytes_eq name (codes "metadata")) c.is_none-2.result (sym c.is_first-2.ensures ∙ c.if-is_first-2.true) in
     let text = c.in_ok-put_text.ensures.text in
     let start : p.start ≡ length old.text.items = omega (arith, c.len-start.ensures, old.text.ok) in
     let end : p.end ≡ length c.put_text.new.out.items = omega (arith, c.len-end.ensures, c.put_text.new.out.ok) in
     let there = at_new old.text.items _ (compact_text d) p text start end in
-    subst (λ xs. AreNoted xs (option_map (λ v. v.items) old.variants) (Some p) left all) (sym text)
-    (noted_metadata old.text.items (compact_text d) (option_map (λ v. v.items) old.variants) old.metadata name d left all p
-    both.0 (none_at old.metadata (sym new ∙ both.1)) (subst (λ xs. at xs p ≡ compact_text d) text there.0)
-    (subst (λ xs. IsWithin xs p) text there.1) h)
-
-pub returns-else-is_first-2-clause-noted : goal.returns-else-is_first-2-clause-noted
-returns-else-is_first-2-clause-noted c = λ left all h.
-    let name = c.args.name.now in let d = tree_view c.args.value.now in let old = c.args.spelled.now in
-    let new : c.is_none.result ≡ not (is_some old.variants) = search rules in
-    let anew : c.is_none-2.result ≡ not (is_some old.metadata) = search rules in
-    let text = c.in_ok-put_text.ensures.text in
-    subst (λ xs. AreNoted xs (option_map (λ v. v.items) old.variants) old.metadata left all) (sym text)
-    (noted_other old.text.items (compact_text d) (option_map (λ v. v.items) old.variants) old.metadata name d left all
+    subst (λ xs. AreNoted xs vs c.note.new.self left all) (sym text)
+    (noted_places old.text.items (compact_text d) vs old.places name d left all c.note.new.self p
     (is_noted name (codes "variants") old.variants
     (ap (λ b. bytes_eq name (codes "variants") && b) (sym new) ∙ sym c.is_first.ensures ∙ c.if-is_first.false))
-    (ap (λ b. bytes_eq name (codes "metadata") && b) (sym anew) ∙ sym c.is_first-2.ensures ∙ c.if-is_first-2.false) h)
+    c.note.ensures.metadata c.note.ensures.targeting (subst (λ xs. at xs p ≡ compact_text d) text there.0)
+    (subst (λ xs. IsWithin xs p) text there.1) h)

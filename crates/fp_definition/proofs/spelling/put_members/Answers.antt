@@ -32,9 +32,9 @@ loop-member-preserved c =
           (member_printed l.later m.0.now (tree_view m.1) rest c.in_ok-put_name.ensures.utf8
           c.in_ok-put_member.ensures.printed h)),
       λ h. c.in_ok-put_member.ensures.noted rest all
-          (subst (λ ys. AreNoted ys vs old.metadata (member m.0.now (tree_view m.1) rest) all) (sym c.in_ok-put_name.ensures.text)
-          (noted_more old.text.items name vs old.metadata (member m.0.now (tree_view m.1) rest) all
-          (subst (λ ms. AreNoted old.text.items vs old.metadata ms all) here (l.invariant.3 h)))),
+          (subst (λ ys. AreNoted ys vs old.places (member m.0.now (tree_view m.1) rest) all) (sym c.in_ok-put_name.ensures.text)
+          (noted_more old.text.items name vs old.places (member m.0.now (tree_view m.1) rest) all
+          (subst (λ ms. AreNoted old.text.items vs old.places ms all) here (l.invariant.3 h)))),
     )
 
 pub returns-clause-printed : goal.returns-clause-printed
@@ -49,10 +49,10 @@ returns-clause-noted c = λ h.
     let l = c.loop-member in let all = tree_members c.args.members.now in
     let none = ap tree_members (drop_all l.member-index c.args.members.now (omega arith)) in
     let old = c.args.spelled.now in
-    let begun = subst (λ ys. AreNoted ys (option_map (λ v. v.items) old.variants) old.metadata all all) (sym c.in_ok-push.ensures.items)
-    (noted_more old.text.items (123 ∷ []) (option_map (λ v. v.items) old.variants) old.metadata all all h) in
-    subst (λ ys. AreNoted ys (option_map (λ v. v.items) l.spelled.variants) l.spelled.metadata no_members all)
+    let begun = subst (λ ys. AreNoted ys (option_map (λ v. v.items) old.variants) old.places all all) (sym c.in_ok-push.ensures.items)
+    (noted_more old.text.items (123 ∷ []) (option_map (λ v. v.items) old.variants) old.places all all h) in
+    subst (λ ys. AreNoted ys (option_map (λ v. v.items) l.spelled.variants) l.spelled.places no_members all)
     (sym c.in_ok-push-2.ensures.items)
-    (noted_more l.spelled.text.items (125 ∷ []) (option_map (λ v. v.items) l.spelled.variants) l.spelled.metadata no_members all
-    (subst (λ ms. AreNoted l.spelled.text.items (option_map (λ v. v.items) l.spelled.variants) l.spelled.metadata ms
+    (noted_more l.spelled.text.items (125 ∷ []) (option_map (λ v. v.items) l.spelled.variants) l.spelled.places no_members all
+    (subst (λ ms. AreNoted l.spelled.text.items (option_map (λ v. v.items) l.spelled.variants) l.spelled.places ms
     all) none (l.invariant.3 begun)))

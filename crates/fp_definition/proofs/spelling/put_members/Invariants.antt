@@ -14,6 +14,6 @@ invariant-loop-member l =
     l.initial.spelled.text.items ++ members_text false (tree_members l.members))
     × (AreMembersPrinted l.later (tree_members (drop l.member-index l.members)) → AreMembersPrinted false (tree_members l.members))
     × (AreNoted l.initial.spelled.text.items (option_map (λ v. v.items) l.initial.spelled.variants)
-    l.initial.spelled.metadata (tree_members l.members) (tree_members l.members)
-    → AreNoted l.spelled.text.items (option_map (λ v. v.items) l.spelled.variants) l.spelled.metadata
+    l.initial.spelled.places (tree_members l.members) (tree_members l.members)
+    → AreNoted l.spelled.text.items (option_map (λ v. v.items) l.spelled.variants) l.spelled.places
     (tree_members (drop l.member-index l.members)) (tree_members l.members))

@@ -1,53 +1,43 @@
-use Rattle.std.proofs.Common.{◌≡◌, ℕ, length, Ok, ap, subst, ◌∙◌, arith}
-use Rattle.std.specs.FinMap as fin
-use Rattle.std.proofs.lemmas.Result.{err_from_is_err_and}
+use Rattle.std.proofs.Common.{Ok, sym, ap, ◌∙◌, arith}
+use Rattle.std.proofs.lemmas.List.{length-map}
+use Rattle.fp_documents.specs.Entries.{entry_of, entries_of}
 use Rattle.fp_edit.specs.Flags.{State}
-use Rattle.fp_record.specs.Reading.{image_at}
-use Rattle.fp_record.proofs.Loop.{Fails}
-use Rattle.fp_recovery.proofs.Read.{image_fails, image_left, image_read, image_stands}
+use Rattle.fp_recovery.proofs.Read.{image_is, image_stands, marks_read, room_read}
 use Rattle.fp_recovery.proofs.images.set_from.Goals as goal
 
-pub returns-in_err-next-clause-read : goal.returns-in_err-next-clause-read
-returns-in_err-next-clause-read c =
-    let p = err_from_is_err_and c.from_residual.result c.from_residual.ensures.1 in
-    let bytes = c.args.bytes.now in
-    let e = c.in_err-next.field-0.0 in
-    let base = ap (λ (s : State). s.revision) c.at_revision-set.ensures in
-    rw (p.1, p.2) (image_fails c.args.base c.args.limit bytes c.if-base-ge-REVISIONS_END.false c.if-bytes-limit.false
-    e (subst (λ (b : ℕ). Fails e (image_at b bytes)) base c.in_err-next.ensures.read))
+pub of_flags-requires-clause-numbered : goal.of_flags-requires-clause-numbered
+of_flags-requires-clause-numbered c =
+    (image_is c.args.base c.args.limit c.args.bytes.now (entries_of c.in_ok-flags.flags.items)
+    (λ i. omega (arith, c.type_inv.bytes i)) c.in_ok-flags.ensures).numbered
 
-pub returns-then-next-bytes-clause-read : goal.returns-then-next-bytes-clause-read
-returns-then-next-bytes-clause-read c =
-    let bytes = c.args.bytes.now in
-    let flags = fin.entries c.restore_flags.new.set.flags in
-    let base = ap (λ (s : State). s.revision) c.at_revision-set.ensures in
-    image_left c.args.base c.args.limit bytes c.if-base-ge-REVISIONS_END.false c.if-bytes-limit.false flags
-    c.in_ok-next.next (subst (λ (b : ℕ). image_at b bytes ≡ Ok (flags, c.in_ok-next.next)) base
-    c.in_ok-next.ensures.read) c.if-next-bytes.true
+pub of_flags-requires-clause-ascending : goal.of_flags-requires-clause-ascending
+of_flags-requires-clause-ascending c =
+    (image_is c.args.base c.args.limit c.args.bytes.now (entries_of c.in_ok-flags.flags.items)
+    (λ i. omega (arith, c.type_inv.bytes i)) c.in_ok-flags.ensures).lawful.ascending
+
+pub of_flags-requires-clause-changed : goal.of_flags-requires-clause-changed
+of_flags-requires-clause-changed c =
+    let flags = entries_of c.in_ok-flags.flags.items in
+    let r = image_is c.args.base c.args.limit c.args.bytes.now flags (λ i. omega (arith, c.type_inv.bytes i)) c.in_ok-flags.ensures in
+    marks_read c.args.base flags r.lawful.flags r.changed
+
+pub of_flags-requires-clause-few : goal.of_flags-requires-clause-few
+of_flags-requires-clause-few c =
+    let flags = entries_of c.in_ok-flags.flags.items in
+    let r = image_is c.args.base c.args.limit c.args.bytes.now flags (λ i. omega (arith, c.type_inv.bytes i)) c.in_ok-flags.ensures in
+    let few = r.lawful.few in omega (arith, few, length-map c.in_ok-flags.flags.items entry_of)
+
+pub of_flags-requires-clause-room : goal.of_flags-requires-clause-room
+of_flags-requires-clause-room c =
+    let flags = entries_of c.in_ok-flags.flags.items in
+    room_read c.args.base c.args.limit c.args.bytes.now flags
+    (image_is c.args.base c.args.limit c.args.bytes.now flags (λ i. omega (arith, c.type_inv.bytes i)) c.in_ok-flags.ensures)
 
 pub returns-clause-read : goal.returns-clause-read
-returns-clause-read c =
-    let bytes = c.args.bytes.now in
-    let flags = fin.entries c.restore_flags.new.set.flags in
-    let base = ap (λ (s : State). s.revision) c.at_revision-set.ensures in
-    let least = c.if-next-bytes.false in
-    let most = c.in_ok-next.ensures.within in
-    let end : c.in_ok-next.next ≡ length bytes = omega (arith, least, most) in
-    image_read c.args.base c.args.limit bytes c.if-base-ge-REVISIONS_END.false c.if-bytes-limit.false flags
-    c.in_ok-next.next (subst (λ (b : ℕ). image_at b bytes ≡ Ok (flags, c.in_ok-next.next)) base
-    c.in_ok-next.ensures.read) end
+returns-clause-read c = c.in_ok-flags.ensures ∙ ap Ok (sym c.in_ok-set.ensures.entries)
 
 pub returns-clause-found : goal.returns-clause-found
 returns-clause-found c =
-    let bytes = c.args.bytes.now in
-    let flags = fin.entries c.restore_flags.new.set.flags in
-    let base = ap (λ (s : State). s.revision) c.at_revision-set.ensures in
-    let limit = ap (λ (s : State). s.limit) c.at_revision-set.ensures in
-    let least = c.if-next-bytes.false in
-    let most = c.in_ok-next.ensures.within in
-    let end : c.in_ok-next.next ≡ length bytes = omega (arith, least, most) in
-    let read = image_read c.args.base c.args.limit bytes c.if-base-ge-REVISIONS_END.false c.if-bytes-limit.false
-    flags c.in_ok-next.next (subst (λ (b : ℕ). image_at b bytes ≡ Ok (flags, c.in_ok-next.next)) base
-    c.in_ok-next.ensures.read) end in
-    image_stands c.args.base c.args.limit bytes c.restore_flags.new.set (λ i. omega (arith, c.type_inv.bytes i)) read
-    (c.in_ok-next.ensures.same.0 ∙ base) (c.in_ok-next.ensures.same.1 ∙ limit)
+    image_stands c.args.base c.args.limit c.args.bytes.now c.in_ok-set.set (λ i. omega (arith, c.type_inv.bytes i))
+    (c.in_ok-flags.ensures ∙ ap Ok (sym c.in_ok-set.ensures.entries))
+    (ap (λ (s : State). s.revision) c.in_ok-set.ensures.made) (ap (λ (s : State). s.limit) c.in_ok-set.ensures.made)

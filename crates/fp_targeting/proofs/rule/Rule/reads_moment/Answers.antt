@@ -1,5 +1,4 @@
-use Rattle.std.proofs.Common.{false, sym, ap, ◌∙◌, subst}
-use Rattle.std.specs.Arc.{arc_value}
+use Rattle.std.proofs.Common.{sym, ap, ◌∙◌, subst}
 use Rattle.fp_machine.specs.Sound.{IsSound}
 use Rattle.fp_machine.specs.Reading.{rule_of_code}
 use Rattle.fp_targeting.specs.Moment.{IsTimeless}
