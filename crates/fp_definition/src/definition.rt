@@ -111,20 +111,21 @@ impl Definition {
         read_text(alloc, text, None)
     }
 
-    /// As `from_text`. Where `targeting` is spelled as that of another definition, the rule is a
-    /// share of its: it is neither read nor compiled again. Bytes that are no definition's text may
-    /// be read twice.
+    /// As `from_text`, beside another definition, if there is one. Where `targeting` is spelled as
+    /// the other's, the rule is a share of its: it is neither read nor compiled again. Bytes that
+    /// are no definition's text may be read twice.
     pub fn from_text_beside(
         alloc: Global,
         text: &[u8],
-        other: &Definition,
+        other: Option<&Definition>,
     ) -> Result<Option<Definition>, AllocError>
         ensures { IfOk result (λ o. o ≡ definition_in text.now) }
     {
-        match read_text(alloc, text, Some(other))? {
-            Some(definition) => Ok(Some(definition)),
-            None => read_text(alloc, text, None),
+        let found = read_text(alloc, text, other)?;
+        if found.is_none() && other.is_some() {
+            return read_text(alloc, text, None);
         }
+        Ok(found)
     }
 
     /// The canonical text, which `from_text` takes.

@@ -6,6 +6,7 @@ mod edit;
 mod flag_set;
 mod judging;
 mod keys;
+mod known;
 mod laws;
 mod lent;
 mod line;
@@ -21,6 +22,7 @@ pub use edit::{Change, Edit, EditFault, Expect, REVISIONS_END};
 pub use flag_set::{FlagSet, MOST_FLAGS};
 pub use fp_documents::{Document, FLAG_FRAME, Flag, IMAGE_HEAD};
 pub use keys::MetKeys;
+pub use known::definition_under;
 pub use laws::{
     one_outcome, refusals_leave_no_trace, revisions_count_edits, sets_keep_their_limit,
 };

@@ -15,8 +15,9 @@ ghost use Rattle.fp_record.specs.declared.fault.RecordFault.TheVariants.{Memory}
 use crate::batch::{DELETE_KIND, PUT_KIND, SET_KIND};
 use crate::fault::RecordFault;
 use crate::fields::{definition_from, key_of, key_text_at, u8_at, u16_at};
-use fp_definition::{Definition, FlagKey, LONGEST_KEY};
+use fp_definition::LONGEST_KEY;
 use fp_edit::{Change, Changes, Edit, Expect, FlagSet, LONGEST_EDIT, MOST_CHANGES, MetKeys};
+use fp_edit::definition_under;
 use std::alloc::Global;
 
 // The text of a key that was not met before, and the place behind it. It is met then.
@@ -38,14 +39,6 @@ fn new_key_from<'a>(
         return Err(RecordFault::BadRecord { at: at + 2 });
     }
     Ok((text, next))
-}
-
-// The definition of a flag, if the set has it.
-fn definition_under<'s>(set: Option<&'s FlagSet>, key: &FlagKey) -> Option<&'s Definition> {
-    match set?.get(key) {
-        Some(flag) => Some(&flag.definition),
-        None => None,
-    }
 }
 
 // The put of this key with the definition that is there, and the place behind it.

@@ -5,13 +5,12 @@ ghost use Rattle.std.specs.Int.{w8, w16, w32, w64};
 ghost use Rattle.std.specs.Str.{is_utf8};
 ghost use Rattle.fp_base.specs.Answer.{Gives};
 ghost use Rattle.fp_definition.specs.Key.{key_bytes};
-ghost use Rattle.fp_definition.specs.Valid.{definition_in};
 ghost use Rattle.fp_record.specs.declared.fault.RecordFault.TheVariants.{Memory};
 ghost use Rattle.fp_record.specs.Fields.{Tells, number_at, bytes_at, key_at, definition_at};
 
 use crate::fault::RecordFault;
 use fp_definition::{Definition, FlagKey, KeyFault, LONGEST_DEFINITION, LONGEST_KEY};
-use std::alloc::{AllocError, Global};
+use std::alloc::Global;
 
 /// The byte at this place, and the place behind it.
 pub fn u8_at(bytes: &[u8], at: usize) -> Result<(u8, usize), RecordFault>
@@ -152,22 +151,8 @@ pub fn definition_from(
         return Err(RecordFault::BadRecord { at });
     }
     let (text, next) = part_at(bytes, len as usize, from)?;
-    match definition_of(alloc, text, other)? {
+    match Definition::from_text_beside(alloc, text, other)? {
         Some(definition) => Ok((definition, next)),
         None => Err(RecordFault::BadRecord { at: from }),
-    }
-}
-
-// The definition of that text.
-fn definition_of(
-    alloc: Global,
-    text: &[u8],
-    other: Option<&Definition>,
-) -> Result<Option<Definition>, AllocError>
-    ensures { IfOk result (λ o. o ≡ definition_in text.now) }
-{
-    match other {
-        Some(other) => Definition::from_text_beside(alloc, text, other),
-        None => Definition::from_text(alloc, text),
     }
 }

@@ -30,6 +30,8 @@ pub struct Showing<R: Drop> {
     pub loops: Arc<Loops<Set>, Global>,
     pub numbers: Arc<Numbers, Global>,
     pub shelf: Option<Arc<Shelf, Global>>,
+    /// What was shown last.
+    pub last: Option<Arc<Set, Global>>,
     /// Whether the connection that stands gave a frame.
     pub has_heard: bool,
     /// What was shown so far, in proofs alone.
@@ -72,13 +74,22 @@ impl<R: Wait + Clock + Log + Drop> Audience for Showing<R> {
         let bytes = (HEAD + shown.document().len()) as u64;
         let set = Arc::new(self.alloc, Set::of(shown))?;
         let kept = Arc::try_clone(&set)?;
+        let last = Arc::try_clone(&set)?;
         self.show_set(&set)?;
         self.numbers.take(&self.rt, bytes);
         if let Some(shelf) = &self.shelf {
             shelf.put(&self.rt, kept);
         }
         self.seen.lengthen::<Set, OfSet>(&set);
+        self.last = Some(last);
         Ok(())
+    }
+
+    fn last(&self) -> Option<&Shown> {
+        match &self.last {
+            Some(set) => Some(set.shown()),
+            None => None,
+        }
     }
 }
 

@@ -37,6 +37,9 @@ pub trait Audience {
         ensures shown { OnOk result (seen self.new ≡ seen self.old ++ shown ∷ []) }
         // `Err`: what was shown stays.
         ensures unchanged { OnErr result (seen self.new ≡ seen self.old) };
+
+    /// What was shown last, if it is at hand. The next is read beside it.
+    fn last(&self) -> Option<&Shown>;
 }
 
 /// Why nothing more is taken from a connection.
@@ -197,7 +200,7 @@ fn show_newer<A: Audience>(
     if !last.is_behind(revision) {
         return Ok(());
     }
-    let shown = Shown::of_frame(alloc, frame)?;
+    let shown = Shown::of_frame_behind(alloc, frame, audience.last())?;
     audience.show(shown)?;
     *last = Hello::Has(revision);
     Ok(())

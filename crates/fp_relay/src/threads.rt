@@ -160,6 +160,7 @@ impl Relaying {
             loops: Arc::try_clone(&self.loops)?,
             numbers: Arc::try_clone(&self.numbers)?,
             shelf: None,
+            last: None,
             has_heard: false,
             seen: Growing::new().0,
         };

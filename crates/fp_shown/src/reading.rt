@@ -24,7 +24,7 @@ use crate::lawful::every_set_is_lawful;
 use crate::members::{Member, member_in};
 use fp_base::{Tree, read_tree};
 use fp_definition::{Definition, FlagKey, KeyFault, LONGEST_DEFINITION, LONGEST_KEY};
-use fp_edit::{FLAG_FRAME, Flag, FlagSet, IMAGE_HEAD, MOST_FLAGS, REVISIONS_END};
+use fp_edit::{FLAG_FRAME, Flag, FlagSet, IMAGE_HEAD, MOST_FLAGS, REVISIONS_END, definition_under};
 use json::Scratch;
 use std::alloc::{AllocError, Global};
 
@@ -41,8 +41,13 @@ const HEAD: &[u8] = b"{\"flags\":{";
 const END: &[u8] = b"}}";
 
 /// The set of this revision and document. At most one set is held at a time, and beside it the text
-/// of one document.
-pub(crate) fn set_of(alloc: Global, revision: u64, document: &[u8]) -> Result<FlagSet, ShownFault>
+/// of one document. Definitions are read beside those of a set that is known, if there is one.
+pub(crate) fn set_of(
+    alloc: Global,
+    revision: u64,
+    document: &[u8],
+    known: Option<&FlagSet>,
+) -> Result<FlagSet, ShownFault>
     ensures found { IfOk result (IsSetOf revision document.now) }
     ensures lawful { IfOk result IsLawful }
     ensures refused { result ≡ Err NoSet → HasNoSet revision document.now }
@@ -54,7 +59,7 @@ pub(crate) fn set_of(alloc: Global, revision: u64, document: &[u8]) -> Result<Fl
         return Err(ShownFault::NoSet);
     };
     let mut set = FlagSet::at_revision(alloc, revision, SHOWN_LIMIT);
-    put_flags(alloc, &mut set, flags)?;
+    put_flags(alloc, &mut set, flags, known)?;
     if is_document_of(&set, document)? {
         every_set_is_lawful(&set);
         return Ok(set);
@@ -71,7 +76,12 @@ fn is_document_of(set: &FlagSet, document: &[u8]) -> Result<bool, AllocError>
 }
 
 // Puts the flags of a text into an empty set, up to the document's end.
-fn put_flags(alloc: Global, set: &mut FlagSet, text: &[u8]) -> Result<(), ShownFault>
+fn put_flags(
+    alloc: Global,
+    set: &mut FlagSet,
+    text: &[u8],
+    known: Option<&FlagSet>,
+) -> Result<(), ShownFault>
     requires empty { set.old.flags ≡ map.empty }
     requires limit { set.old.limit ≡ SHOWN_LIMIT }
     ensures revision { OnOk result (set.new.revision ≡ set.old.revision) }
@@ -89,7 +99,7 @@ fn put_flags(alloc: Global, set: &mut FlagSet, text: &[u8]) -> Result<(), ShownF
         let Some(member) = member_in(rest, later) else {
             return Err(ShownFault::NoSet);
         };
-        put_flag(alloc, set, &member)?;
+        put_flag(alloc, set, &member, known)?;
         rest = member.rest;
         later = true;
     }
@@ -100,7 +110,12 @@ fn put_flags(alloc: Global, set: &mut FlagSet, text: &[u8]) -> Result<(), ShownF
 }
 
 // Puts a member's flag. What is too long for one isn't read.
-fn put_flag(alloc: Global, set: &mut FlagSet, member: &Member<'_>) -> Result<(), ShownFault>
+fn put_flag(
+    alloc: Global,
+    set: &mut FlagSet,
+    member: &Member<'_>,
+    known: Option<&FlagSet>,
+) -> Result<(), ShownFault>
     requires few { map.len set.old.flags < MOST_FLAGS }
     requires room { size set.old.flags + LONGEST_FLAG ≤ set.old.limit }
     ensures put { OnOk result
@@ -116,7 +131,8 @@ fn put_flag(alloc: Global, set: &mut FlagSet, member: &Member<'_>) -> Result<(),
         return Err(ShownFault::NoSet);
     }
     let key = key_in(alloc, member.name)?;
-    let Some(definition) = Definition::from_text(alloc, member.value)? else {
+    let other = definition_under(known, &key);
+    let Some(definition) = Definition::from_text_beside(alloc, member.value, other)? else {
         return Err(ShownFault::NoSet);
     };
     set.restore(

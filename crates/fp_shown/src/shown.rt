@@ -42,7 +42,24 @@ impl Shown {
         // `NoSet`: no lawful set whatever has both.
         ensures refused { result ≡ Err NoSet → HasNoSet frame.revision frame.body.items }
     {
-        let set = set_of(alloc, frame.revision, &frame.body)?;
+        Shown::of_frame_behind(alloc, frame, None)
+    }
+
+    /// As `of_frame`, behind what was shown before, if anything was: what both have in common is
+    /// read quicker, and shared.
+    pub fn of_frame_behind(
+        alloc: Global,
+        frame: Frame,
+        before: Option<&Shown>,
+    ) -> Result<Shown, ShownFault>
+        // `Ok`: it is seen as the frame's revision and document.
+        ensures shown { IfOk result (λ s. s ≡ snapshot_of frame) }
+        // `Ok`: there is a lawful set with both.
+        ensures set { IfOk result (λ _. HasSet frame.revision frame.body.items) }
+        // `NoSet`: no lawful set whatever has both.
+        ensures refused { result ≡ Err NoSet → HasNoSet frame.revision frame.body.items }
+    {
+        let set = set_of(alloc, frame.revision, &frame.body, set_in(before))?;
         Ok(Shown {
             set,
             document: frame.body,
@@ -74,5 +91,13 @@ impl Shown {
     {
         let _ = &self.document;
         &self.set
+    }
+}
+
+// The set of what is shown.
+fn set_in(shown: Option<&Shown>) -> Option<&FlagSet> {
+    match shown {
+        Some(shown) => Some(&shown.set),
+        None => None,
     }
 }

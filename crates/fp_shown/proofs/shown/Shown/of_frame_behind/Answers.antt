@@ -1,6 +1,6 @@
 use Rattle.std.proofs.Common.{List, ℕ, subst}
 use Rattle.fp_shown.specs.Sets.{IsSetOf}
-use Rattle.fp_shown.proofs.shown.Shown.of_frame.Goals as goal
+use Rattle.fp_shown.proofs.shown.Shown.of_frame_behind.Goals as goal
 
 pub returns-clause-set : goal.returns-clause-set
 returns-clause-set c =
