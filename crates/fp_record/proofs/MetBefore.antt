@@ -5,7 +5,7 @@ use Rattle.std.specs.Int.{w8}
 use Rattle.fp_base.specs.Steps.{◌>>=◌}
 use Rattle.fp_edit.specs.Changes.{is_among}
 use Rattle.fp_edit.specs.Keys.{AreMet}
-use Rattle.fp_edit.specs.Parts.{Part, put, delete}
+use Rattle.fp_edit.specs.Parts.{delete, put}
 use Rattle.fp_record.specs.Fields.{number_at, key_at, definition_at}
 use Rattle.fp_record.specs.Reading.{new_key_at, put_at, delete_at, part_at}
 use Rattle.fp_record.specs.declared.batch.TheConstants.{PUT_KIND, DELETE_KIND}
