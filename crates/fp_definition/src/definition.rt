@@ -111,9 +111,9 @@ impl Definition {
         read_text(alloc, text, None)
     }
 
-    /// As `from_text`, beside another definition, if there is one. Where `targeting` is spelled as
-    /// the other's, the rule is a share of its: it is neither read nor compiled again. Bytes that
-    /// are no definition's text may be read twice.
+    /// As `from_text`, beside another definition, if there is one. Bytes that are the other's text
+    /// give a share of it; where `targeting` is spelled as the other's, its rule is shared, and
+    /// neither read nor compiled again. Bytes that are no definition's text may be read twice.
     pub fn from_text_beside(
         alloc: Global,
         text: &[u8],
@@ -121,11 +121,16 @@ impl Definition {
     ) -> Result<Option<Definition>, AllocError>
         ensures { IfOk result (λ o. o ≡ definition_in text.now) }
     {
-        let found = read_text(alloc, text, other)?;
-        if found.is_none() && other.is_some() {
+        let Some(other) = other else {
             return read_text(alloc, text, None);
+        };
+        if other.text() == text {
+            return Ok(Some(other.try_copy()?));
         }
-        Ok(found)
+        match read_text(alloc, text, Some(other))? {
+            Some(definition) => Ok(Some(definition)),
+            None => read_text(alloc, text, None),
+        }
     }
 
     /// The canonical text, which `from_text` takes.

@@ -90,6 +90,7 @@ fn put_flags(
     ensures refused { result ≡ Err NoSet → (s : State) → IsLawful s
         → s.revision ≡ set.old.revision → text.now ≡ rest_text false (map.entries s.flags) → ⊥ }
 {
+    let mut scratch = Scratch::new(alloc);
     let mut rest = text;
     let mut later = false;
     for _ in 0..MOST_FLAGS {
@@ -99,7 +100,7 @@ fn put_flags(
         let Some(member) = member_in(rest, later) else {
             return Err(ShownFault::NoSet);
         };
-        put_flag(alloc, set, &member, known)?;
+        put_flag(alloc, set, &member, known, &mut scratch)?;
         rest = member.rest;
         later = true;
     }
@@ -115,6 +116,7 @@ fn put_flag(
     set: &mut FlagSet,
     member: &Member<'_>,
     known: Option<&FlagSet>,
+    scratch: &mut Scratch,
 ) -> Result<(), ShownFault>
     requires few { map.len set.old.flags < MOST_FLAGS }
     requires room { size set.old.flags + LONGEST_FLAG ≤ set.old.limit }
@@ -130,7 +132,7 @@ fn put_flag(
     if member.value.len() > LONGEST_DEFINITION {
         return Err(ShownFault::NoSet);
     }
-    let key = key_in(alloc, member.name)?;
+    let key = key_in(alloc, member.name, scratch)?;
     let other = definition_under(known, &key);
     let Some(definition) = Definition::from_text_beside(alloc, member.value, other)? else {
         return Err(ShownFault::NoSet);
@@ -146,7 +148,7 @@ fn put_flag(
 }
 
 // The key that a text in quotes spells.
-fn key_in(alloc: Global, name: &[u8]) -> Result<FlagKey, ShownFault>
+fn key_in(alloc: Global, name: &[u8], scratch: &mut Scratch) -> Result<FlagKey, ShownFault>
     ensures spelled { IfOk result (λ k. json_of name.now ≡ Some (string (key_bytes k))) }
     ensures long { IfOk result (λ k. is_key (key_bytes k) ≡ true) }
     ensures refused { result ≡ Err NoSet → (key : List ℕ) → is_key key ≡ true → IsUtf8 key
@@ -155,8 +157,7 @@ fn key_in(alloc: Global, name: &[u8]) -> Result<FlagKey, ShownFault>
     if name.len() > LONGEST_NAME {
         return Err(ShownFault::NoSet);
     }
-    let mut scratch = Scratch::new(alloc);
-    let Some(tree) = read_tree(alloc, name, &mut scratch)? else {
+    let Some(tree) = read_tree(alloc, name, scratch)? else {
         return Err(ShownFault::NoSet);
     };
     let Some(text) = text_of(&tree) else {
