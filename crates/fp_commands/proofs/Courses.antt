@@ -1,5 +1,5 @@
 -- What a run over a session leaves of it and of its disk.
-use Rattle.std.proofs.Common.{◌≡◌, ◌≢◌, ◌⊎◌, ◌<◌, ◌≤◌, ◌+◌, ◌++◌, ℕ, Bool, List, MatchResult, Option, Ok, Err, Result}
+use Rattle.std.proofs.Common.{◌≡◌, ◌≢◌, ◌⊎◌, ◌<◌, ◌≤◌, ◌+◌, ◌++◌, ℕ, Bool, List, [], true, MatchResult, Option, Ok, Err, Result}
 use Rattle.std.proofs.Common.{refl, sym, ap, subst, inl, inr, ◌∙◌, arith}
 use Rattle.std.proofs.lemmas.Option.{IfSome_then}
 use Rattle.fp_disk.specs.Crashes.{AtAnyMoment, EachCrash, SameHonesty}
@@ -23,7 +23,7 @@ use Rattle.fp_committer.specs.Kept.{IsAfterFirst}
 use Rattle.fp_committer.specs.Works.{BreaksOff, Leads, calls_of, work_calls}
 use Rattle.fp_committer.specs.WorksLaws.{breaks_on, works_break}
 use Rattle.fp_session.specs.Session.{Begins, disk_of, Fails, flags_of, HasPlace, IsReady, Keeps, LacksRoomFor}
-use Rattle.fp_session.specs.Session.{LeavesFlags, SessionState, StandsAhead}
+use Rattle.fp_session.specs.Session.{LeavesFlags, SessionState, StandsAhead, Steps}
 use Rattle.fp_committer.specs.Course as committer
 use Rattle.fp_committer.specs.CourseLaws.{course_then}
 use Rattle.fp_committer.proofs.Courses.{course_keeps, half_through, runs}
@@ -50,6 +50,9 @@ set_store = record {
   may_stand = λ s flags. flags ≡ s;
   has_place = λ s change. Unit {0};
   rests = λ s. Unit {0};
+  waits = λ s. ⊥;
+  owes = λ s. ⊥;
+  steps = λ a b. ⊥;
   continues_to = λ a b. Unit {0};
   fails_on = λ f a b. ⊥;
   leaves = λ a b P. Unit {0};
@@ -76,6 +79,9 @@ session_store disk = record {
   may_stand = λ s flags. IsAfterFirst s.desk (settled_revision s.desk) flags;
   has_place = λ s change. HasPlace s change;
   rests = λ s. s.half.store.compaction.next ≡ Begin;
+  waits = λ s. s.desk.waiting ≢ [];
+  owes = λ s. s.owes ≡ true;
+  steps = λ a b. Steps disk a b;
   continues_to = λ a b. Keeps disk a b;
   fails_on = λ f a b. Fails disk f a b;
   leaves = λ a b P. LeavesFlags disk a b P;

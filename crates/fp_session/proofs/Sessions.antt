@@ -90,8 +90,9 @@ module _ {D : Type 0} (disk : Ghosts D) (s a : SessionState D) (is : s ≡ a) wh
 
   -- at another desk it goes on as before
   pub keeps_desk : (mid : DeskState) → (IsInStep disk s.half.store s.desk → IsInStep disk s.half.store mid)
-      → Keeps disk a (record { half = s.half; desk = mid; stopped = s.stopped })
-  keeps_desk mid on = subst (λ (x : SessionState D). Keeps disk x (record { half = s.half; desk = mid; stopped = s.stopped })) is
+      → Keeps disk a (record { half = s.half; desk = mid; stopped = s.stopped; owes = s.owes })
+  keeps_desk mid on =
+      subst (λ (x : SessionState D). Keeps disk x (record { half = s.half; desk = mid; stopped = s.stopped; owes = s.owes })) is
       (record {
         honest = (λ h. h, λ h. h);
         no_failure = refl;

@@ -7,11 +7,13 @@ use Rattle.fp_edit.specs.Flags.{State}
 use Rattle.fp_edit.specs.Log.{after_all}
 use Rattle.fp_recovery.specs.Room.{IsFullFor}
 use Rattle.fp_recovery.specs.Stands.{StandsFor}
+use Rattle.fp_group_commit.specs.Calls.{Compacts}
 use Rattle.fp_group_commit.specs.Store.{IsAtRest, StoreState, sealed_set}
 use Rattle.fp_desk.specs.Desk.{DeskState, FitsBehind, head, log, most_of, settled_revision}
 use Rattle.fp_committer.specs.Committer.{Agree, AreHalves, DeskHalfState}
 use Rattle.fp_committer.specs.Course.{Course}
 use Rattle.fp_committer.specs.Kept.{IsAfterFirst}
+use Rattle.fp_committer.specs.Room.{IsDue}
 use Rattle.fp_committer.specs.StoreHalf.{KeptBy, StoreHalfState}
 use Rattle.fp_committer.specs.Way.{nothing_drawn}
 use Rattle.fp_committer.specs.Works.{BreaksOff, Works}
@@ -22,6 +24,8 @@ pub record SessionState (D : Type 0) : Type 0 where
   pub half : StoreHalfState D
   pub desk : DeskState
   pub stopped : Bool
+  -- a step of a compaction is owed: nothing was done yet, or a batch was sealed since one was taken
+  pub owes : Bool
 
 abbrev pub disk_of : {D : Type 0} → SessionState D → D
 disk_of s = s.half.store.disk
@@ -93,6 +97,13 @@ pub record Begins {D : Type 0} (disk : Ghosts D) (s : SessionState D) : Type 0 w
 -- the change makes one batch with those that wait
 abbrev pub HasPlace : {D : Type 0} → SessionState D → Change → Type 0
 HasPlace s c = (s.stopped ≡ false) × FitsBehind (most_of s.desk.store.start.limit) s.desk.waiting c
+
+-- the step that is owed is taken: a step of a compaction where one is due, and else none
+pub record Steps {D : Type 0} (disk : Ghosts D) (a b : SessionState D) : Type 0 where
+  -- Where a compaction runs, or is to begin, its next step was taken.
+  pub taken : IsDue a.half.store → Compacts disk.faults a.half.store b.half.store
+  -- Where none is due the store stays.
+  pub none : (IsDue a.half.store → ⊥) → b.half.store ≡ a.half.store
 
 -- whatever a crash leaves at any moment from one to the other stands for flags of this kind
 abbrev pub LeavesFlags : {D : Type 0} → Ghosts D → SessionState D → SessionState D → (State

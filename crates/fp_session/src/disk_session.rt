@@ -1,7 +1,7 @@
 //! Edits that go to a disk, by the halves of a committer.
 
 ghost use Rattle.std.specs.Prelude.{◌≡◌, ◌<◌, [], ◌∷◌, false, IfOk, IfErr, IsTrue, MatchResult};
-ghost use Rattle.std.specs.Prelude.{◌↔◌};
+ghost use Rattle.std.specs.Prelude.{◌↔◌, ◌≢◌, true};
 ghost use Rattle.fp_disk.specs.Crashes.{EachCrash, SameHonesty};
 ghost use Rattle.fp_disk.specs.Outcomes.{IsOutcome, LeavesOnly};
 ghost use Rattle.fp_disk.specs.declared.history.CallKind.TheVariants.{Length, Sync};
@@ -15,7 +15,7 @@ ghost use Rattle.fp_group_commit.specs.Store.{IsFresh};
 ghost use Rattle.fp_desk.specs.Desk.{settled_revision};
 ghost use Rattle.fp_committer.specs.Kept.{IsAfterFirst};
 ghost use Rattle.fp_session.specs.Session.{Begins, Fails, HasPlace, IsInStep, IsReady, Keeps, LeavesFlags};
-ghost use Rattle.fp_session.specs.Session.{StandsAhead, disk_of, flags_of};
+ghost use Rattle.fp_session.specs.Session.{StandsAhead, Steps, disk_of, flags_of};
 ghost use Rattle.fp_session.specs.SessionLaws.{flags_as, flags_on, keeps_itself, keeps_on};
 
 use crate::commit::commit_all;
@@ -58,6 +58,7 @@ impl<D: Disk> Model for DiskSession<D> {
       half = s.store;
       desk = s.desk.desk;
       stopped = s.is_stopped;
+      owes = s.is_due;
     } };
 
     ghost invariant = { λ s. AreOne s.desk s.store
@@ -76,6 +77,8 @@ impl<D: Disk> DiskSession<D> {
         ensures made { IfOk result (λ s. (s.half.store ≡ store) × IsReady D.Disk s) }
         // `Ok`: no compaction runs.
         ensures rests { IfOk result (λ s. s.half.store.compaction.next ≡ Begin) }
+        // `Ok`: a step is owed.
+        ensures owes { IfOk result (λ s. s.owes ≡ true) }
         // `Ok`: nothing was drawn before, and its flags are those that its store begins with.
         ensures begins { IfOk result (Begins D.Disk) }
         // `Ok`: nothing waits, so that no flags may stand but its own.
@@ -113,6 +116,8 @@ impl<D: Disk> DiskSession<D> {
         ensures ready { IfOk result (λ s. IsReady D.Disk s) }
         // `Ok`: no compaction runs.
         ensures rests { IfOk result (λ s. s.half.store.compaction.next ≡ Begin) }
+        // `Ok`: a step is owed.
+        ensures owes { IfOk result (λ s. s.owes ≡ true) }
         // `Ok`: nothing was drawn before, and its flags are those that its store begins with.
         ensures begins { IfOk result (Begins D.Disk) }
         // `Ok`: nothing waits, so that no flags may stand but its own.
@@ -203,6 +208,12 @@ impl<D: Disk> EditStore for DiskSession<D> {
     ghost leaves = { λ a b P. LeavesFlags D.Disk a b P };
 
     ghost rests = { λ s. s.half.store.compaction.next ≡ Begin };
+
+    ghost waits = { λ s. s.desk.waiting ≢ [] };
+
+    ghost owes = { λ s. s.owes ≡ true };
+
+    ghost steps = { λ a b. Steps D.Disk a b };
 
     ghost leads_to_itself = { λ s. keeps_itself D.Disk s };
 

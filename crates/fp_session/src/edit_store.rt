@@ -36,6 +36,15 @@ pub trait EditStore {
     // Nothing is done beside the edits.
     ghost rests: { Self → Type 0 };
 
+    // An edit waits until `commit` keeps it.
+    ghost waits: { Self → Type 0 };
+
+    // A step of what is done beside the edits is owed.
+    ghost owes: { Self → Type 0 };
+
+    // It becomes that by the step that was owed.
+    ghost steps: { Self → Self → Type 0 };
+
     ghost leads_to_itself: { (s : Self) → continues_to s s };
 
     ghost leads_on: { (a b c : Self) → continues_to a b → continues_to b c → continues_to a c };
@@ -82,6 +91,8 @@ pub trait EditStore {
         ensures kept { OnOk result ((s : State) → may_stand self.new s → s ≡ state self.new) }
         // `Ok`: nothing waits, so that any edit may.
         ensures place { OnOk result ((c : Change) → has_place self.new c) }
+        // `Ok`: a step is owed exactly where one was before, or an edit waited.
+        ensures owes { OnOk result (owes self.new ↔ (owes self.old ⊎ waits self.old)) }
         // No flags may stand that might not before.
         ensures ahead { (s : State) → may_stand self.new s → may_stand self.old s }
         // At any moment a crash leaves flags that might stand before (H for a `DiskSession`).
@@ -93,12 +104,18 @@ pub trait EditStore {
 
     /// Goes on with what is done beside the edits, by one step where one is due. A `DiskSession`
     /// takes steps of a compaction, which it begins where its slot runs short or is of the first
-    /// version.
+    /// version; it owes one at first, and behind what `commit` sealed.
     fn go_on(&mut self) -> Result<(), CommitFault>
         // The flags stay, whatever is answered.
         ensures same { state self.new ≡ state self.old }
         // `Ok`: an edit that might wait may.
         ensures place { OnOk result ((c : Change) → has_place self.old c → has_place self.new c) }
+        // `Ok`: where a step was owed it was taken.
+        ensures step { OnOk result (owes self.old → steps self.old self.new) }
+        // `Ok`: where none was owed all is as before.
+        ensures no_step { OnOk result ((owes self.old → ⊥) → self.new ≡ self.old) }
+        // `Ok`: no step is owed any more.
+        ensures owes_none { OnOk result (owes self.new → ⊥) }
         // No flags may stand that might not before.
         ensures ahead { (s : State) → may_stand self.new s → may_stand self.old s }
         // At any moment a crash leaves flags that might stand before (H for a `DiskSession`).
@@ -146,6 +163,12 @@ impl EditStore for FlagSet {
     ghost leaves = { λ a b P. Unit {0} };
 
     ghost rests = { λ s. Unit {0} };
+
+    ghost waits = { λ s. ⊥ };
+
+    ghost owes = { λ s. ⊥ };
+
+    ghost steps = { λ a b. ⊥ };
 
     ghost leads_to_itself = { λ s. tt };
 

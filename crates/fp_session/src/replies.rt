@@ -335,6 +335,7 @@ pub fn go_on<E: EditStore>(edits: &mut E) -> Result<(), ApplyFault>
         → MatchResult result (λ _. IsAt E.EditStore first edits.new asked sent r)
         (IsBroken E.EditStore most first edits.new asked sent r) }
     ensures place { OnOk result ((c : Change) → E.has_place edits.old c → E.has_place edits.new c) }
+    ensures step { OnOk result (E.owes edits.old → E.steps edits.old edits.new) }
     ensures fault { IfErr result IsFromWithin }
 {
     edits.go_on()?;

@@ -35,14 +35,14 @@ returns-in-Err-Edit-default-clause-refused g c =
 pub returns-in-Ok-clause-any_moment : goal.returns-in-Ok-clause-any_moment
 returns-in-Ok-clause-any_moment g c =
     let i = c.self.inside in stays_put g.D.Disk _ _ c.self.view_is c.stays.ensures.still
-    (record { half = i.store; desk = c.submit.new.self.desk; stopped = i.is_stopped }) refl
+    (record { half = i.store; desk = c.submit.new.self.desk; stopped = i.is_stopped; owes = i.is_due }) refl
 
 pub returns-in-Err-Edit-default-clause-any_moment : goal.returns-in-Err-Edit-default-clause-any_moment
 returns-in-Err-Edit-default-clause-any_moment g c =
     let i = c.self.inside in stays_put g.D.Disk _ _ c.self.view_is c.stays.ensures.still
-    (record { half = i.store; desk = c.submit.new.self.desk; stopped = i.is_stopped }) refl
+    (record { half = i.store; desk = c.submit.new.self.desk; stopped = i.is_stopped; owes = i.is_due }) refl
 
 pub returns-in-Err-Memory-default-clause-any_moment : goal.returns-in-Err-Memory-default-clause-any_moment
 returns-in-Err-Memory-default-clause-any_moment g c =
     let i = c.self.inside in stays_put g.D.Disk _ _ c.self.view_is c.stays.ensures.still
-    (record { half = i.store; desk = c.submit.new.self.desk; stopped = i.is_stopped }) refl
+    (record { half = i.store; desk = c.submit.new.self.desk; stopped = i.is_stopped; owes = i.is_due }) refl
