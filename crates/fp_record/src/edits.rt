@@ -16,8 +16,9 @@ use crate::batch::{DELETE_KIND, PUT_KIND, SET_KIND};
 use crate::fault::RecordFault;
 use crate::fields::{definition_from, key_of, key_text_at, u8_at, u16_at};
 use fp_definition::LONGEST_KEY;
-use fp_edit::{Change, Changes, Edit, Expect, FlagSet, LONGEST_EDIT, MOST_CHANGES, MetKeys};
-use fp_edit::definition_under;
+use fp_edit::{
+    Change, Changes, Edit, Expect, FlagSet, LONGEST_EDIT, MOST_CHANGES, MetKeys, definition_under,
+};
 use std::alloc::Global;
 
 // The text of a key that was not met before, and the place behind it. It is met then.
