@@ -47,3 +47,10 @@ ends_name text key rest is = ap (behind (between_at 0)) is ∙ behind-quoted key
 pub ends_value : (text value rest : List ℕ) → is_definition_text value ≡ true → text ≡ value ++ rest
     → behind (between_at 0) text ≡ Some rest
 ends_value text value rest h is = ap (behind (between_at 0)) is ∙ behind-definition value rest h
+
+-- a text begins with one definition at most
+pub same_end : (text a r b s : List ℕ) → is_definition_text a ≡ true → text ≡ a ++ r → is_definition_text b ≡ true → text ≡ b ++ s →
+    length a ≡ length b
+same_end text a r b s one is two also =
+    let same = same_some r s (sym (ends_value text a r one is) ∙ ends_value text b s two also) in
+    omega (arith, ap length is, ap length also, length-append a r, length-append b s, ap length same)

@@ -9,6 +9,8 @@ ghost use Rattle.fp_definition.specs.Valid.{is_definition_text};
 ghost use Rattle.fp_shown.specs.Reading.{IsMember};
 ghost use Rattle.fp_shown.specs.Scan.{after, after_between, after_quoted, is_done};
 
+use fp_definition::Definition;
+
 /// A member: its name in quotes, its value, and what stands behind it.
 #[derive(Drop, Clone, Copy)]
 pub(crate) struct Member<'a> {
@@ -17,27 +19,47 @@ pub(crate) struct Member<'a> {
     pub(crate) rest: &'a [u8],
 }
 
-/// The member that a text begins with, behind a comma where it isn't the first.
-pub(crate) fn member_in(text: &[u8], later: bool) -> Option<Member<'_>>
+/// The member that a text begins with, behind a comma where it isn't the first. Its value is perhaps
+/// like that definition's text.
+pub(crate) fn member_in<'a>(
+    text: &'a [u8],
+    later: bool,
+    like: Option<&Definition>,
+) -> Option<Member<'a>>
     ensures { (key value rest : List ℕ) → is_definition_text value ≡ true
         → text.now ≡ comma_if later ++ (quoted key ++ 58 ∷ (value ++ rest))
         → MatchOption result ⊥ (IsMember (quoted key) value rest) }
 {
     if later {
-        return first_member(behind(b',', text)?);
+        return first_member(behind(b',', text)?, like);
     }
-    first_member(text)
+    first_member(text, like)
 }
 
-fn first_member(text: &[u8]) -> Option<Member<'_>>
+fn first_member<'a>(text: &'a [u8], like: Option<&Definition>) -> Option<Member<'a>>
     ensures { (key value rest : List ℕ) → is_definition_text value ≡ true
         → text.now ≡ quoted key ++ 58 ∷ (value ++ rest)
         → MatchOption result ⊥ (IsMember (quoted key) value rest) }
 {
     let (name, text) = text.split_at(end_of_value(text)?);
     let text = behind(b':', text)?;
-    let (value, rest) = text.split_at(end_of_value(text)?);
+    let (value, rest) = text.split_at(end_of_definition(text, like)?);
     Some(Member { name, value, rest })
+}
+
+// How many bytes the definition has that a text begins with. The end is looked for where it isn't
+// the one that it may be like.
+fn end_of_definition(text: &[u8], like: Option<&Definition>) -> Option<usize>
+    ensures within { IfSome result (λ end. end ≤ length text.now) }
+    ensures value { (value rest : List ℕ) → is_definition_text value ≡ true
+        → text.now ≡ value ++ rest → result ≡ Some (length value) }
+{
+    if let Some(like) = like
+        && let Some(_rest) = text.strip_prefix(like.text())
+    {
+        return Some(like.text().len());
+    }
+    end_of_value(text)
 }
 
 // What stands behind this byte.

@@ -27,6 +27,7 @@ use fp_definition::{Definition, FlagKey, KeyFault, LONGEST_DEFINITION, LONGEST_K
 use fp_edit::{FLAG_FRAME, Flag, FlagSet, IMAGE_HEAD, MOST_FLAGS, REVISIONS_END, definition_under};
 use json::Scratch;
 use std::alloc::{AllocError, Global};
+use std::collections::btree_map::Iter;
 
 /// The limit of a shown set's image, in bytes: the most flags that a set has, each of the longest
 /// key and definition, fit.
@@ -91,13 +92,15 @@ fn put_flags(
         → s.revision ≡ set.old.revision → text.now ≡ rest_text false (map.entries s.flags) → ⊥ }
 {
     let mut scratch = Scratch::new(alloc);
+    let mut before = flags_in(known);
     let mut rest = text;
     let mut later = false;
     for _ in 0..MOST_FLAGS {
         if rest == END {
             return Ok(());
         }
-        let Some(member) = member_in(rest, later) else {
+        let like = next_in(&mut before);
+        let Some(member) = member_in(rest, later, like) else {
             return Err(ShownFault::NoSet);
         };
         put_flag(alloc, set, &member, known, &mut scratch)?;
@@ -108,6 +111,26 @@ fn put_flags(
         return Ok(());
     }
     Err(ShownFault::NoSet)
+}
+
+// The flags of a set that is known, in their order: those of a document that follows are mostly the
+// same at the same places.
+fn flags_in(known: Option<&FlagSet>) -> Option<Iter<'_, FlagKey, Flag>> {
+    match known {
+        Some(set) => Some(set.iter()),
+        None => None,
+    }
+}
+
+// The definition of the next of these flags.
+fn next_in<'k>(flags: &mut Option<Iter<'k, FlagKey, Flag>>) -> Option<&'k Definition> {
+    let Some(flags) = flags else {
+        return None;
+    };
+    match flags.next() {
+        Some((_, flag)) => Some(&flag.definition),
+        None => None,
+    }
 }
 
 // Puts a member's flag. What is too long for one isn't read.
