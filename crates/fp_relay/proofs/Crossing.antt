@@ -63,7 +63,10 @@ showing_sent R sr = let T = showing.the_type R in
             Arc-send _ numbers.the_send numbers.the_sync,
             (
               search (sendable, crosses, shelf_sent, shelf_shared) depth 10,
-              (search sendable, (search (sendable, growing.the_send) depth 5, tt)),
+              (
+                search (sendable, crosses, set_sent, set_shared) depth 10,
+                (search sendable, (search (sendable, growing.the_send) depth 5, tt)),
+              ),
             ),
           ),
         ),
