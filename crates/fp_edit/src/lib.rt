@@ -11,6 +11,7 @@ mod laws;
 mod lent;
 mod line;
 mod one_flag;
+mod outlining;
 mod sums;
 mod walks;
 
