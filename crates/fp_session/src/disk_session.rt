@@ -243,7 +243,7 @@ impl<D: Disk> EditStore for DiskSession<D> {
         if self.is_stopped {
             return Err(CommitFault::StoreFailed);
         }
-        self.is_due = self.is_due || self.desk.desk().is_waiting();
+        self.is_due = self.desk.desk().is_waiting();
         self.is_stopped = true;
         commit_all(&mut self.desk, &mut self.store)?;
         self.is_stopped = false;

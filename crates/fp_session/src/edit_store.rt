@@ -13,6 +13,7 @@ use fp_edit::{Edit, EditFault, FlagSet};
 /// Flags that take one edit after another, and keep them in batches.
 ///
 /// What is taken by `submit` waits until `commit` keeps it, and no one is told of it before.
+/// Nothing is committed while a step is owed: `go_on` takes it before.
 pub trait EditStore {
     // The flags after all edits that were taken.
     ghost state: { Self → State };
@@ -80,19 +81,23 @@ pub trait EditStore {
             → may_stand self.old s ⊎ (s ≡ state self.new) }
         // At any moment a crash leaves flags that might stand before (H for a `DiskSession`).
         ensures any_moment { leaves self.old self.new (may_stand self.old) }
+        // No step is owed that wasn't before.
+        ensures owes { owes self.new → owes self.old }
         // What keeps the flags goes on, whatever is answered.
         ensures goes_on { continues_to self.old self.new };
 
     /// Keeps what waits. A `DiskSession` seals it in batches that are as long as they may be.
     fn commit(&mut self) -> Result<(), CommitFault>
+        // No step is owed.
+        requires paid { owes self.old → ⊥ }
         // The flags stay, whatever is answered.
         ensures same { state self.new ≡ state self.old }
         // `Ok`: what waited is kept: no flags may stand but these.
         ensures kept { OnOk result ((s : State) → may_stand self.new s → s ≡ state self.new) }
         // `Ok`: nothing waits, so that any edit may.
         ensures place { OnOk result ((c : Change) → has_place self.new c) }
-        // `Ok`: a step is owed exactly where one was before, or an edit waited.
-        ensures owes { OnOk result (owes self.new ↔ (owes self.old ⊎ waits self.old)) }
+        // `Ok`: a step is owed exactly where an edit waited.
+        ensures owes { OnOk result (owes self.new ↔ waits self.old) }
         // No flags may stand that might not before.
         ensures ahead { (s : State) → may_stand self.new s → may_stand self.old s }
         // At any moment a crash leaves flags that might stand before (H for a `DiskSession`).

@@ -63,6 +63,7 @@ impl Replies {
         edits: &mut E,
         edit: Result<Edit, LineFault>,
     ) -> Result<(), ApplyFault>
+        requires paid { E.owes edits.old → ⊥ }
         ensures asked { (first : E) (asked : List Ask) (sent : List ℕ) (x : Ask) → AsksFor edit x
             → IsAt E.EditStore first edits.old asked sent self.old → MatchResult result
             (λ _. IsAt E.EditStore first edits.new (asked ++ x ∷ []) sent self.new)
@@ -71,6 +72,7 @@ impl Replies {
         ensures one { OnOk result (length self.new.waiting.items
             ≤ length self.old.waiting.items + 1) }
         ensures bounded { OnOk result (length self.new.waiting.items ≤ MOST_WAITING) }
+        ensures paid { OnOk result (E.owes edits.new → ⊥) }
         ensures fault { IfErr result IsFromWithin }
     {
         match edit {
@@ -86,6 +88,7 @@ impl Replies {
         edits: &mut E,
         fault: LineFault,
     ) -> Result<(), ApplyFault>
+        requires paid { E.owes edits.old → ⊥ }
         ensures asked { (first : E) (asked : List Ask) (sent : List ℕ) (x : Ask)
             → Tells fault (λ f. x ≡ Err f)
             → IsAt E.EditStore first edits.old asked sent self.old → MatchResult result
@@ -95,6 +98,7 @@ impl Replies {
         ensures one { OnOk result (length self.new.waiting.items
             ≤ length self.old.waiting.items + 1) }
         ensures bounded { OnOk result (length self.new.waiting.items ≤ MOST_WAITING) }
+        ensures paid { OnOk result (E.owes edits.new → ⊥) }
         ensures fault { IfErr result IsFromWithin }
     {
         self.make_place(alloc, edits, true)?;
@@ -109,6 +113,7 @@ impl Replies {
         edits: &mut E,
         edit: Edit,
     ) -> Result<(), ApplyFault>
+        requires paid { E.owes edits.old → ⊥ }
         ensures asked { (first : E) (asked : List Ask) (sent : List ℕ)
             → IsAt E.EditStore first edits.old asked sent self.old → MatchResult result
             (λ _. IsAt E.EditStore first edits.new
@@ -118,6 +123,7 @@ impl Replies {
         ensures one { OnOk result (length self.new.waiting.items
             ≤ length self.old.waiting.items + 1) }
         ensures bounded { OnOk result (length self.new.waiting.items ≤ MOST_WAITING) }
+        ensures paid { OnOk result (E.owes edits.new → ⊥) }
         ensures fault { IfErr result IsFromWithin }
     {
         let joins = edits.joins(&edit);
@@ -137,6 +143,7 @@ impl Replies {
         edits: &mut E,
         joins: bool,
     ) -> Result<(), ApplyFault>
+        requires paid { E.owes edits.old → ⊥ }
         ensures place { (c : Change) → (joins ≡ true → E.has_place edits.old c)
             → OnOk result (E.has_place edits.new c) }
         ensures room { OnOk result (length self.new.waiting.items < MOST_WAITING) }
@@ -147,6 +154,7 @@ impl Replies {
             (λ _. IsAt E.EditStore first edits.new asked sent self.new)
             (IsBroken E.EditStore (length self.old.waiting.items) first edits.new asked sent
             self.new) }
+        ensures paid { OnOk result (E.owes edits.new → ⊥) }
         ensures fault { IfErr result IsFromWithin }
     {
         if joins && self.waiting.len() < MOST_WAITING {
@@ -161,6 +169,7 @@ impl Replies {
     ///
     /// What is told in either case is made before, so that no memory is wanting then.
     pub fn seal<E: EditStore>(&mut self, alloc: Global, edits: &mut E) -> Result<(), ApplyFault>
+        requires paid { E.owes edits.old → ⊥ }
         ensures asked { (first : E) (asked : List Ask) (sent : List ℕ)
             → IsAt E.EditStore first edits.old asked sent self.old → MatchResult result
             (λ _. IsAt E.EditStore first edits.new asked sent self.new)
@@ -168,6 +177,7 @@ impl Replies {
             self.new) }
         ensures none { OnOk result (self.new.waiting.items ≡ []) }
         ensures place { OnOk result ((c : Change) → E.has_place edits.new c) }
+        ensures paid { OnOk result (E.owes edits.new → ⊥) }
         ensures fault { IfErr result IsFromWithin }
     {
         let kept = self.telling(alloc, true)?;
@@ -186,6 +196,7 @@ impl Replies {
 
     /// Has what waits kept, ends what is done beside it, and shows the flags behind all replies.
     pub fn end<E: EditStore>(&mut self, alloc: Global, edits: &mut E) -> Result<(), ApplyFault>
+        requires paid { E.owes edits.old → ⊥ }
         ensures ended { (first : E) (asked : List Ask) (sent : List ℕ)
             → IsAt E.EditStore first edits.old asked sent self.old → MatchResult result
             (λ _. IsEnded E.EditStore first edits.new asked sent self.new)
@@ -321,6 +332,7 @@ fn submit<E: EditStore>(edits: &mut E, edit: Edit) -> Reply
     requires place { E.has_place edits.old (change_of edit) }
     ensures taken { Takes E.EditStore edits.old (Ok (proposal_of edit)) (reply_of_code result)
         edits.new }
+    ensures owes { E.owes edits.new → E.owes edits.old }
 {
     match edits.submit(edit) {
         Ok(revision) => Reply::Revision(revision),
@@ -336,6 +348,7 @@ pub fn go_on<E: EditStore>(edits: &mut E) -> Result<(), ApplyFault>
         (IsBroken E.EditStore most first edits.new asked sent r) }
     ensures place { OnOk result ((c : Change) → E.has_place edits.old c → E.has_place edits.new c) }
     ensures step { OnOk result (E.owes edits.old → E.steps edits.old edits.new) }
+    ensures paid { OnOk result (E.owes edits.new → ⊥) }
     ensures fault { IfErr result IsFromWithin }
 {
     edits.go_on()?;

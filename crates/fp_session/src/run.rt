@@ -77,6 +77,7 @@ fn answer<W: Write, E: EditStore>(
     edit: Result<Edit, LineFault>,
     batching: Batching,
 ) -> Result<(), ApplyFault>
+    requires paid { E.owes edits.old → ⊥ }
     ensures answered { (first : E) (asked : List Ask) (x : Ask) (before : Option (List ℕ))
         → AsksFor edit x → length replies.old.waiting.items ≤ most_waiting batching
         → IsAtWith E.EditStore first edits.old asked before (W.contents w.old.inner) replies.old
@@ -88,6 +89,7 @@ fn answer<W: Write, E: EditStore>(
     ensures bounded { length replies.old.waiting.items ≤ most_waiting batching
         → OnOk result ((length replies.new.waiting.items ≤ most_waiting batching)
         × (length replies.new.text.items ≤ LONG)) }
+    ensures paid { OnOk result (E.owes edits.new → ⊥) }
     ensures device { Blames w.old.failures w.new.failures result }
 {
     match put(alloc, replies, edits, edit, batching) {
@@ -104,6 +106,7 @@ fn put<E: EditStore>(
     edit: Result<Edit, LineFault>,
     batching: Batching,
 ) -> Result<(), ApplyFault>
+    requires paid { E.owes edits.old → ⊥ }
     ensures asked { (first : E) (asked : List Ask) (sent : List ℕ) (x : Ask) → AsksFor edit x
         → length replies.old.waiting.items ≤ most_waiting batching
         → IsAt E.EditStore first edits.old asked sent replies.old → MatchResult result
@@ -112,6 +115,7 @@ fn put<E: EditStore>(
         replies.new) }
     ensures bounded { length replies.old.waiting.items ≤ most_waiting batching
         → OnOk result (length replies.new.waiting.items ≤ most_waiting batching) }
+    ensures paid { OnOk result (E.owes edits.new → ⊥) }
     ensures fault { IfErr result IsFromWithin }
 {
     replies.ask(alloc, edits, edit)?;
@@ -128,6 +132,7 @@ fn settle<W: Write, E: EditStore>(
     replies: &mut Replies,
     edits: &mut E,
 ) -> Result<(), ApplyFault>
+    requires paid { E.owes edits.old → ⊥ }
     ensures settled { (first : E) (asked : List Ask) (before : Option (List ℕ)) (most : ℕ)
         → length replies.old.waiting.items ≤ most
         → IsAtWith E.EditStore first edits.old asked before (W.contents w.old.inner) replies.old
@@ -138,6 +143,7 @@ fn settle<W: Write, E: EditStore>(
         w.old.failures w.new.failures) }
     ensures none { OnOk result ((replies.new.waiting.items ≡ [])
         × (replies.new.text.items ≡ [])) }
+    ensures paid { OnOk result (E.owes edits.new → ⊥) }
     ensures device { Blames w.old.failures w.new.failures result }
 {
     match replies.seal(alloc, edits) {

@@ -24,6 +24,7 @@ loop-next-init g c = record {
         c.new-replies.ensures.none c.new-replies.ensures.told c.requires.fresh c.flags.ensures.still);
   };
   few = let none = ap length c.new-replies.ensures.none in omega (arith, none);
+  paid = c.in_ok-go_on.ensures.paid;
   sent_well = refl;
   read_well = refl;
 }
@@ -41,6 +42,7 @@ loop-next-2-preserved g c =
       came = came;
       at = c.in_ok-answer.ensures.answered first inv.asked next.0 before next.1 inv.few inv.at;
       few = (c.in_ok-answer.ensures.bounded inv.few).0;
+      paid = c.in_ok-answer.ensures.paid;
       sent_well = c.in_ok-answer.ensures.device ∙ inv.sent_well;
     }
 
