@@ -1,7 +1,10 @@
 //! Who seals draws and settles under the plane's lock, and calls the disk without it.
+//!
+//! Behind each batch a step of a compaction is owed: who draws one owes it, and nobody draws while
+//! one is owed.
 
 ghost use Rattle.std.specs.Prelude.{◌≡◌, ◌⊎◌, ◌<◌, ◌∷◌, [], true, false, IfErr, IfOk, OnErr};
-ghost use Rattle.std.specs.Prelude.{OnOk};
+ghost use Rattle.std.specs.Prelude.{OnOk, is_ok};
 ghost use Rattle.fp_edit.specs.Edits.{proposal_of};
 ghost use Rattle.fp_committer.specs.Course.{Course, LacksRoom, ListsOn};
 ghost use Rattle.fp_committer.specs.StoreHalf.{StoreHalfState};
@@ -75,12 +78,13 @@ where
     flushed
 }
 
-/// Seals, settles and shows all that is drawn, until whoever was told last was alone, or the plane is
-/// to stop and nothing waits.
+/// Takes the step that is owed. Then it seals, settles and shows all that is drawn, and takes the step
+/// behind each batch, until whoever was told last was alone, or the plane is to stop and nothing waits.
 pub(crate) fn flush_while_busy<K, D, R>(
     plane: &Plane<K, R>,
     half: &mut StoreHalf<D>,
     gathering: &mut Gathering,
+    owes_step: &mut bool,
 ) -> Result<Lull, Broken>
 where
     K: Naming,
@@ -95,15 +99,17 @@ where
     ensures cause { OnErr result ((D.faults half.old.store.disk < D.faults half.new.store.disk)
         ⊎ LacksRoom D.Disk half.new) }
     ensures alone { IfOk result (λ p. p ≡ Alone → gathering.new.alone ≡ true) }
+    ensures paid { OnOk result (owes_step.new ≡ false) }
 {
+    take_step(&plane.shared.rt, half, owes_step)?;
     for _ in plane.shared.rt.forever() {
         plane.gather(gathering);
-        match plane.draw(half) {
+        match plane.draw(half, owes_step) {
             Ok(()) => {}
             Err(settled) => return Ok(Lull::Over(settled)),
         }
         flush(plane, half, gathering)?;
-        take_step(&plane.shared.rt, half)?;
+        take_step(&plane.shared.rt, half, owes_step)?;
         if gathering.is_alone() {
             return Ok(Lull::Alone);
         }
@@ -111,11 +117,12 @@ where
     unreachable!()
 }
 
-/// Hands an edit in, and seals it with all that waits, settles and shows it.
+/// Hands an edit in, and seals it with all that waits, settles and shows it. A step is owed then.
 pub(crate) fn submit_and_flush<K, D, R>(
     plane: &Plane<K, R>,
     half: &mut StoreHalf<D>,
     gathering: &mut Gathering,
+    owes_step: &mut bool,
     edit: Edit,
 ) -> (Result<Ticket, (Refusal, Edit)>, Result<(), Broken>)
 where
@@ -124,6 +131,7 @@ where
     R: Wait + Clock + Log + Drop,
     requires ours { IsStoreOf K.store K.desk_lists K.store_lists half.old }
     requires rest { IsResting half.old }
+    requires paid { owes_step.old ≡ false }
     ensures refused { IfErr result.0 (λ e. e.0.edit ≡ proposal_of edit) }
     ensures ticket { IfOk result.0 (λ t. (t.store ≡ K.store) × (t.edit ≡ proposal_of edit)) }
     ensures given_back { IfErr result.0 (λ e. e.1 ≡ edit) }
@@ -133,8 +141,10 @@ where
         (D.faults half.new.store.disk ≡ D.faults half.old.store.disk) }
     ensures cause { OnErr result.1 ((D.faults half.old.store.disk < D.faults half.new.store.disk)
         ⊎ LacksRoom D.Disk half.new) }
+    // Nothing is drawn without a step that is owed behind it.
+    ensures owes { owes_step.new ≡ false → half.new ≡ half.old }
 {
-    let (submitted, drawn) = plane.submit_and_draw(edit, half);
+    let (submitted, drawn) = plane.submit_and_draw(edit, half, owes_step);
     if !drawn {
         return (submitted, Ok(()));
     }
@@ -195,8 +205,12 @@ fn seal<D: Disk, R: Wait + Clock>(rt: &R, half: &mut StoreHalf<D>) -> Result<(),
     unreachable!()
 }
 
-/// Takes a step of a compaction, where one is due, and tells what began or ended by it.
-pub(crate) fn take_step<D, R>(rt: &R, half: &mut StoreHalf<D>) -> Result<(), Broken>
+/// Takes the step of a compaction that is owed, where one is due, and tells what began or ended by it.
+pub(crate) fn take_step<D, R>(
+    rt: &R,
+    half: &mut StoreHalf<D>,
+    owes_step: &mut bool,
+) -> Result<(), Broken>
 where
     D: Disk,
     R: Log,
@@ -206,8 +220,18 @@ where
     ensures no_failure { OnOk result
         (D.faults half.new.store.disk ≡ D.faults half.old.store.disk) }
     ensures cause { OnErr result (D.faults half.old.store.disk < D.faults half.new.store.disk) }
-    ensures step { OnOk result (StepsWhereDue D.faults half.old.store half.new.store) }
+    // The step that is owed is taken where it is due,
+    ensures step { OnOk result (owes_step.old ≡ true
+        → StepsWhereDue D.faults half.old.store half.new.store) }
+    // and none where none is owed.
+    ensures no_step { owes_step.old ≡ false → half.new ≡ half.old }
+    // None is owed then.
+    ensures paid { owes_step.new ≡ false }
 {
+    if !*owes_step {
+        return Ok(());
+    }
+    *owes_step = false;
     let before = Seen::of(half.store());
     compact_on(half)?;
     before.tell_since(rt, half.store());
@@ -234,14 +258,18 @@ fn compact_on<D: Disk>(half: &mut StoreHalf<D>) -> Result<(), Broken>
 impl<K: Naming, R: Wait + Clock + Drop> Plane<K, R> {
     // Waits until edits wait, and draws them. `Err` where the plane is to stop and none does: the
     // hall was ended under the same lock, and no batch is drawn any more.
-    fn draw<D: Disk>(&self, half: &mut StoreHalf<D>) -> Result<(), AllSettled>
+    fn draw<D: Disk>(&self, half: &mut StoreHalf<D>, owes_step: &mut bool) -> Result<(), AllSettled>
         requires ours { IsStoreOf K.store K.desk_lists K.store_lists half.old }
         requires none { half.old.progress ≡ nothing_drawn }
+        // Nobody draws while a step is owed,
+        requires paid { owes_step.old ≡ false }
         // `Ok`: a batch is drawn, and a crash keeps what is settled.
         ensures drawn { OnOk result ((half.new.progress ≡ batch_drawn)
             × ListsOn D.Disk half.old half.new) }
         // `Err`: nothing changed.
         ensures none { OnErr result (half.new ≡ half.old) }
+        // and who draws owes one.
+        ensures owes { owes_step.new ≡ is_ok result }
     {
         let shared = &self.shared;
         half.rest();
@@ -249,6 +277,7 @@ impl<K: Naming, R: Wait + Clock + Drop> Plane<K, R> {
         for _ in shared.rt.forever() {
             match hall.draw(half) {
                 Ok(Some(_)) => {
+                    *owes_step = true;
                     shared.note_waiting(&hall);
                     half.rest();
                     return Ok(());
@@ -349,15 +378,18 @@ impl<K: Naming, R: Wait + Clock + Drop> Plane<K, R> {
         &self,
         edit: Edit,
         half: &mut StoreHalf<D>,
+        owes_step: &mut bool,
     ) -> (Result<Ticket, (Refusal, Edit)>, bool)
         requires ours { IsStoreOf K.store K.desk_lists K.store_lists half.old }
         requires none { half.old.progress ≡ nothing_drawn }
+        requires paid { owes_step.old ≡ false }
         ensures refused { IfErr result.0 (λ e. e.0.edit ≡ proposal_of edit) }
         ensures ticket { IfOk result.0 (λ t. (t.store ≡ K.store) × (t.edit ≡ proposal_of edit)) }
         ensures given_back { IfErr result.0 (λ e. e.1 ≡ edit) }
         ensures drawn { result.1 ≡ true → (half.new.progress ≡ batch_drawn)
             × ListsOn D.Disk half.old half.new }
         ensures none { result.1 ≡ false → half.new ≡ half.old }
+        ensures owes { owes_step.new ≡ result.1 }
     {
         let shared = &self.shared;
         half.rest();
@@ -367,6 +399,7 @@ impl<K: Naming, R: Wait + Clock + Drop> Plane<K, R> {
             Err(refused) => return (Err(refused), false),
         };
         if let Ok(Some(_)) = hall.draw(half) {
+            *owes_step = true;
             shared.note_waiting(&hall);
             half.rest();
             return (Ok(ticket), true);

@@ -4,15 +4,19 @@
 //! editors would be two groups of two, and each batch have half of them. Behind a batch of four
 //! edits at most the flusher lets them come back: it looks and yields, until as many edits wait as
 //! were told and waited meanwhile, for at most three quarters as long as sealing that batch took
-//! and at most 500 looks. It looks without the lock, which those who come want, at a count that
-//! is noted as edits are handed in and drawn. The count is a hint: where it is wrong, a draw comes a
-//! little sooner or later, and what is drawn is what waits under the lock.
+//! and at most 5,000 looks, of some 0.4 microseconds each. It looks without the lock, which those
+//! who come want, at a count that is noted as edits are handed in and drawn. The count is a hint:
+//! where it is wrong, a draw comes a little sooner or later, and what is drawn is what waits under
+//! the lock.
 //!
 //! Where somebody doesn't come, the next draw waits for nobody, then the next two, and so on up to
-//! 64. Behind a larger batch nobody is waited for, nor where one editor is alone.
+//! 64. Behind a larger batch nobody is waited for, nor behind one that was sealed in less than 200
+//! microseconds, nor where one editor is alone.
 
-ghost use Rattle.std.specs.Prelude.{◌≡◌, ◌⊎◌, ◌<◌, ◌≤◌, ◌+◌, ◌-◌, length, true, false, MatchBool};
-ghost use Rattle.fp_plane.specs.declared.gathering.TheConstants.{MOST_AWAITED};
+ghost use Rattle.std.specs.Prelude.{◌≡◌, ◌⊎◌, ◌<◌, ◌≤◌, ◌+◌, ◌-◌, ◌/◌, length, true, false};
+ghost use Rattle.std.specs.Prelude.{MatchBool};
+ghost use Rattle.std.specs.Duration.{as_nanos};
+ghost use Rattle.fp_plane.specs.declared.gathering.TheConstants.{LEAST_WORTH, MOST_AWAITED};
 
 use crate::naming::Naming;
 use crate::plane::Plane;
@@ -26,8 +30,12 @@ use std::time::{Clock, Duration, Instant};
 /// The most edits of a batch behind which its editors are waited for, and the most that wait already.
 pub const MOST_AWAITED: usize = 4;
 
+/// Microseconds. Behind a batch that was sealed quicker nobody is waited for: two hand-overs and a
+/// client's turn take some 150, so that waiting costs more than it gives.
+pub const LEAST_WORTH: u128 = 200;
+
 // How often a flusher looks at most whether they came.
-const MOST_LOOKS: u32 = 500;
+const MOST_LOOKS: u32 = 5_000;
 
 // Of the time that sealing the batch took, one part of so many isn't waited.
 const PARTS_OF_WAIT: u32 = 4;
@@ -96,16 +104,18 @@ impl Gathering {
     }
 
     /// So many were told while so many others waited, and to seal their batch took so long. Who is
-    /// alone has nobody to wait for, and a large batch is worth no wait.
+    /// alone has nobody to wait for, and a large batch or a quick one is worth no wait.
     pub fn note_told(&mut self, told: usize, waiting: usize, taken: Duration)
         // All who were told and all who waited meanwhile are waited for, where both are four at
-        // most and together more than one,
+        // most and together more than one, and sealing took long enough,
         ensures few { told ≤ MOST_AWAITED → waiting ≤ MOST_AWAITED → 1 < told + waiting →
-            self.new.wanted ≡ told + waiting }
+            LEAST_WORTH ≤ as_nanos taken / 1_000 → self.new.wanted ≡ told + waiting }
         // nobody behind a batch of more than four edits,
         ensures large { MOST_AWAITED < told → self.new.wanted ≡ 0 }
         // nor where more than four waited already,
         ensures busy { MOST_AWAITED < waiting → self.new.wanted ≡ 0 }
+        // nor behind a batch that was sealed quicker than waiting is worth,
+        ensures quick { as_nanos taken / 1_000 < LEAST_WORTH → self.new.wanted ≡ 0 }
         // nor where one editor is alone.
         ensures alone { told + waiting ≤ 1 → self.new.wanted ≡ 0 }
         ensures by_itself { MatchBool self.new.alone ((told ≤ 1) × (waiting ≡ 0))
@@ -117,7 +127,7 @@ impl Gathering {
         self.most = taken;
         self.alone = told <= 1 && waiting == 0;
         self.wanted = 0;
-        if told > MOST_AWAITED || waiting > MOST_AWAITED {
+        if told > MOST_AWAITED || waiting > MOST_AWAITED || taken.as_micros() < LEAST_WORTH {
             return;
         }
         let all = told + waiting;

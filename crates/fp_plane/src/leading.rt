@@ -36,7 +36,7 @@ pub(crate) struct Lying<K: Naming, D: Disk + Drop> {
     half: StoreHalf<D>,
     broken: bool,
     gathering: Gathering,
-    // Whether no step of a compaction was taken behind the last batch of an editor.
+    // Whether a step of a compaction is owed behind the last batch.
     owes_step: bool,
     // The half that the plane began with, as the one element of its list.
     began: Growing<OwnHalf<D>>,
@@ -106,8 +106,9 @@ impl<K: Naming, D: Disk + Drop> Lying<K, D> {
         (lying, front)
     }
 
-    /// Hands an edit in, and seals it with all that waits, where whoever was told last was alone. Where
-    /// sealing broke off, or others are about, it is handed in for the flusher.
+    /// Hands an edit in, and seals it with all that waits, where whoever was told last was alone: behind
+    /// the step that is owed. Where sealing broke off, or others are about, it is handed in for the
+    /// flusher.
     pub fn lead<R>(&mut self, plane: &Plane<K, R>, edit: Edit) -> Result<Ticket, (Refusal, Edit)>
     where
         R: Wait + Clock + Log + Drop,
@@ -123,13 +124,38 @@ impl<K: Naming, D: Disk + Drop> Lying<K, D> {
         if self.broken || !self.gathering.is_alone() {
             return plane.submit(edit);
         }
-        let (submitted, ended) = submit_and_flush(plane, &mut self.half, &mut self.gathering, edit);
+        self.go_on(plane);
+        let submitted = self.seal(plane, edit);
+        if submitted.is_ok() {
+            self.owes_step = true;
+        }
+        submitted
+    }
+
+    // Hands an edit in, and seals it with all that waits. Where the step before it broke sealing off,
+    // the hall is over, which refuses it.
+    fn seal<R>(&mut self, plane: &Plane<K, R>, edit: Edit) -> Result<Ticket, (Refusal, Edit)>
+    where
+        R: Wait + Clock + Log + Drop,
+        requires paid { self.old.owes_step ≡ false }
+        ensures refused { IfErr result (λ e. e.0.edit ≡ proposal_of edit) }
+        ensures ticket { IfOk result (λ t. (t.store ≡ K.store) × (t.edit ≡ proposal_of edit)) }
+        ensures given_back { IfErr result (λ e. e.1 ≡ edit) }
+        ensures broken { self.old.broken ≡ true → self.new ≡ self.old }
+    {
+        if self.broken {
+            return plane.submit(edit);
+        }
+        let (submitted, ended) = submit_and_flush(
+            plane,
+            &mut self.half,
+            &mut self.gathering,
+            &mut self.owes_step,
+            edit,
+        );
         self.broken = ended.is_err();
         if self.broken {
             plane.break_off();
-        }
-        if submitted.is_ok() {
-            self.owes_step = true;
         }
         submitted
     }
@@ -150,8 +176,7 @@ impl<K: Naming, D: Disk + Drop> Lying<K, D> {
         if self.broken || !self.owes_step {
             return;
         }
-        self.owes_step = false;
-        let stepped = take_step(&plane.shared.rt, &mut self.half);
+        let stepped = take_step(&plane.shared.rt, &mut self.half, &mut self.owes_step);
         self.broken = stepped.is_err();
         if self.broken {
             plane.break_off();
@@ -165,11 +190,18 @@ impl<K: Naming, D: Disk + Drop> Lying<K, D> {
         R: Wait + Clock + Log + Drop,
         ensures over { IfSome result (λ ended. self.new.broken ≡ is_err ended) }
         ensures on { IfNone result ((self.new.broken ≡ false) × (self.new.alone ≡ true)) }
+        // No step is owed where it pauses.
+        ensures paid { IfNone result (self.new.owes_step ≡ false) }
     {
         if self.broken {
             return Some(Err(Broken));
         }
-        let paused = flush_while_busy(plane, &mut self.half, &mut self.gathering);
+        let paused = flush_while_busy(
+            plane,
+            &mut self.half,
+            &mut self.gathering,
+            &mut self.owes_step,
+        );
         self.broken = paused.is_err();
         match paused {
             Ok(Lull::Alone) => None,

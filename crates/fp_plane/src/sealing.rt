@@ -1,11 +1,12 @@
 //! A plane, and the place where its store's half lies.
 //!
 //! Who seals: an editor tries the half's lock. Where it gets it, and whoever was told last was
-//! alone (its batch had one edit, and nobody waited behind it), it hands its edit in and draws it
-//! under one lock of the hall, seals, settles and shows it, and lets the half's lock go: no other
-//! thread is woken. Else it hands the edit in and wakes the flusher, which takes the half's lock
-//! and keeps it, also while it sleeps, until it has sealed one edit alone and nobody waits. So
-//! many editors have one that gathers for all, and one editor has no hand-over.
+//! alone (its batch had one edit, and nobody waited behind it), it takes the step of a compaction
+//! that is owed behind that batch, hands its edit in and draws it under one lock of the hall,
+//! seals, settles and shows it, and lets the half's lock go: no other thread is woken. Else it
+//! hands the edit in and wakes the flusher, which takes the half's lock and keeps it, also while it
+//! sleeps, until it has sealed one edit alone and nobody waits. So many editors have one that
+//! gathers for all, and one editor has no hand-over.
 //!
 //! Why no wake is lost: each edit that its editor doesn't draw itself is handed in before the
 //! flusher is woken, and the flusher sleeps under the hall's lock only where no edit waits, the
