@@ -5,3 +5,4 @@ pub mod Spawning
 pub mod StoreCrossing
 mod Halls
 mod LyingLemmas
+pub mod Steps

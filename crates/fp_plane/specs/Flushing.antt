@@ -1,5 +1,5 @@
 -- What a flusher gives back.
-use Rattle.std.specs.Prelude.{◌≡◌, ◌≢◌, ◌⊎◌, ◌<◌, ℕ, false, OnErr, OnOk, Result}
+use Rattle.std.specs.Prelude.{◌≡◌, ◌≢◌, ◌⊎◌, ◌<◌, ◌∷◌, [], ℕ, Bool, List, false, true, OnErr, OnOk, Result}
 use Rattle.fp_disk.specs.Crashes.{AtAnyMoment}
 use Rattle.fp_disk.specs.declared.disk.Disk.{Ghosts}
 use Rattle.fp_slots.specs.declared.slots.Step.TheVariants.{Begin}
@@ -21,6 +21,36 @@ pub record StepsWhereDue {D : Type 0} (faults : D → ℕ) (a b : StoreState D) 
   pub runs : a.compaction.next ≢ Begin → Compacts faults a b
   pub due : IsDue a → Compacts faults a b ⊎ (b ≡ a)
   pub none : (IsDue a → ⊥) → b ≡ a
+
+-- the step that was owed was taken, where it was due, and else nothing changed
+pub record PaysOwed {D : Type 0} (faults : D → ℕ) (owed : Bool) (a b : StoreHalfState D) : Type 0 where
+  pub step : owed ≡ true → StepsWhereDue faults a.store b.store
+  pub no_step : owed ≡ false → b ≡ a
+
+-- The step that was owed was taken first. A course of batches, settlements and steps followed
+pub record PaysFirst {D : Type 0} (disk : Ghosts D) (owed : Bool) (a b : StoreHalfState D) : Type 0 where
+  -- the half between the two
+  pub paid : StoreHalfState D
+  pub first : PaysOwed disk.faults owed a paid
+  pub course : Course disk paid b
+
+-- the half behind a batch, and behind the step that the batch owed
+pub record Turn (D : Type 0) : Type 0 where
+  pub sealed : StoreHalfState D
+  pub paid : StoreHalfState D
+
+-- from one half to another by turns: each is a course to where a step is due or not, and that step
+abbrev pub Turns : {D : Type 0} → Ghosts D → StoreHalfState D → List (Turn D) → StoreHalfState D → Type 0
+Turns disk a [] b = b ≡ a
+Turns disk a (t ∷ ts) b = Course disk a t.sealed
+    × StepsWhereDue disk.faults t.sealed.store t.paid.store × Turns disk t.paid ts b
+
+-- The step that was owed was taken first, and one behind each batch
+pub record PaysEach {D : Type 0} (disk : Ghosts D) (owed : Bool) (a b : StoreHalfState D) : Type 0 where
+  pub paid : StoreHalfState D
+  pub first : PaysOwed disk.faults owed a paid
+  pub turns : List (Turn D)
+  pub each : Turns disk paid turns b
 
 -- It began with one half and ended with the other, by a course of batches, settlements and steps of
 -- compactions between them: whatever a crash leaves at any moment of it stands for some first edits

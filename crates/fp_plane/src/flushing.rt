@@ -9,7 +9,7 @@ ghost use Rattle.fp_edit.specs.Edits.{proposal_of};
 ghost use Rattle.fp_committer.specs.Course.{Course, LacksRoom, ListsOn};
 ghost use Rattle.fp_committer.specs.StoreHalf.{StoreHalfState};
 ghost use Rattle.fp_committer.specs.Way.{batch_drawn, batch_sealed, nothing_drawn};
-ghost use Rattle.fp_plane.specs.Flushing.{Flushes, IsResting, StepsWhereDue};
+ghost use Rattle.fp_plane.specs.Flushing.{Flushes, IsResting, PaysEach, StepsWhereDue};
 ghost use Rattle.fp_plane.specs.Hall.{IsStoreOf};
 ghost use Rattle.fp_plane.specs.declared.flushing.Lull.TheVariants.{Alone};
 
@@ -99,6 +99,8 @@ where
     ensures cause { OnErr result ((D.faults half.old.store.disk < D.faults half.new.store.disk)
         ⊎ LacksRoom D.Disk half.new) }
     ensures alone { IfOk result (λ p. p ≡ Alone → gathering.new.alone ≡ true) }
+    // The step that is owed is taken first, and one behind each batch.
+    ensures steps { OnOk result (PaysEach D.Disk owes_step.old half.old half.new) }
     ensures paid { OnOk result (owes_step.new ≡ false) }
 {
     take_step(&plane.shared.rt, half, owes_step)?;

@@ -4,7 +4,8 @@ ghost use Rattle.std.specs.Prelude.{◌≡◌, ◌∷◌, [], true, false, is_er
 ghost use Rattle.std.specs.Prelude.{OnOk};
 ghost use Rattle.fp_edit.specs.Edits.{proposal_of};
 ghost use Rattle.fp_committer.specs.StoreHalf.{StoreHalfState};
-ghost use Rattle.fp_plane.specs.Flushing.{Flushes, IsResting, StepsWhereDue};
+ghost use Rattle.fp_committer.specs.Course.{Course};
+ghost use Rattle.fp_plane.specs.Flushing.{Flushes, IsResting, PaysEach, PaysFirst, StepsWhereDue};
 ghost use Rattle.fp_plane.specs.Hall.{IsStoreOf};
 
 use crate::flushing::{Broken, Flushed, Lull, flush_while_busy, submit_and_flush, take_step};
@@ -117,6 +118,9 @@ impl<K: Naming, D: Disk + Drop> Lying<K, D> {
         ensures given_back { IfErr result (λ e. e.1 ≡ edit) }
         ensures others { self.old.alone ≡ false → self.new ≡ self.old }
         ensures broken { self.old.broken ≡ true → self.new ≡ self.old }
+        // The step that was owed is taken before it seals.
+        ensures step { self.old.alone ≡ true → self.old.broken ≡ false → self.new.broken ≡ false
+            → PaysFirst D.Disk self.old.owes_step self.old.half self.new.half }
         // An editor that sealed owes a step.
         ensures owes { OnOk result (self.old.alone ≡ true → self.old.broken ≡ false
             → self.new.owes_step ≡ true) }
@@ -142,6 +146,7 @@ impl<K: Naming, D: Disk + Drop> Lying<K, D> {
         ensures ticket { IfOk result (λ t. (t.store ≡ K.store) × (t.edit ≡ proposal_of edit)) }
         ensures given_back { IfErr result (λ e. e.1 ≡ edit) }
         ensures broken { self.old.broken ≡ true → self.new ≡ self.old }
+        ensures course { self.old.broken ≡ false → Course D.Disk self.old.half self.new.half }
     {
         if self.broken {
             return plane.submit(edit);
@@ -170,6 +175,8 @@ impl<K: Naming, D: Disk + Drop> Lying<K, D> {
         ensures step { self.old.broken ≡ false → self.old.owes_step ≡ true
             → self.new.broken ≡ false
             → StepsWhereDue D.faults self.old.half.store self.new.half.store }
+        // None is taken where none is owed.
+        ensures no_step { self.old.owes_step ≡ false → self.new ≡ self.old }
         // None is owed then.
         ensures paid { self.old.broken ≡ false → self.new.owes_step ≡ false }
     {
@@ -190,6 +197,9 @@ impl<K: Naming, D: Disk + Drop> Lying<K, D> {
         R: Wait + Clock + Log + Drop,
         ensures over { IfSome result (λ ended. self.new.broken ≡ is_err ended) }
         ensures on { IfNone result ((self.new.broken ≡ false) × (self.new.alone ≡ true)) }
+        // The step that was owed is taken first, and one behind each batch.
+        ensures steps { self.old.broken ≡ false → self.new.broken ≡ false
+            → PaysEach D.Disk self.old.owes_step self.old.half self.new.half }
         // No step is owed where it pauses.
         ensures paid { IfNone result (self.new.owes_step ≡ false) }
     {

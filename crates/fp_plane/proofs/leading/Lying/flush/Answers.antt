@@ -1,3 +1,7 @@
+use Rattle.std.proofs.Common.{subst}
+use Rattle.fp_desk.proofs.Queues.{held}
+use Rattle.fp_plane.specs.Flushing.{PaysEach}
+use Rattle.fp_plane.specs.Lying.{LyingState}
 use Rattle.fp_plane.proofs.LyingLemmas.{left_then}
 use Rattle.fp_plane.proofs.leading.Lying.flush.Goals as goal
 
@@ -9,3 +13,9 @@ invariant_of-self g c =
           c.self.invariant.1 c.if-self.false s.ensures.course s.ensures.rest s.ensures.no_failure s.ensures.cause
           c.is_err-self-inside.ensures.value,
     )
+
+pub returns-clause-steps : goal.returns-clause-steps
+returns-clause-steps g c = λ on well.
+    let D = g.D.Disk in let s = c.flush_while_busy-paused in let is = c.is_err-self-inside in
+    subst (λ (l : LyingState g.row.D.Denot). PaysEach D l.owes_step l.half s.new.half) c.self.view_is
+    (held s.result is.result _ s.ensures.steps is.ensures.value well)
