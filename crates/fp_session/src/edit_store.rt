@@ -81,8 +81,8 @@ pub trait EditStore {
             → may_stand self.old s ⊎ (s ≡ state self.new) }
         // At any moment a crash leaves flags that might stand before (H for a `DiskSession`).
         ensures any_moment { leaves self.old self.new (may_stand self.old) }
-        // No step is owed that wasn't before.
-        ensures owes { owes self.new → owes self.old }
+        // A step is owed exactly where one was before.
+        ensures owes { owes self.new ↔ owes self.old }
         // What keeps the flags goes on, whatever is answered.
         ensures goes_on { continues_to self.old self.new };
 

@@ -332,7 +332,7 @@ fn submit<E: EditStore>(edits: &mut E, edit: Edit) -> Reply
     requires place { E.has_place edits.old (change_of edit) }
     ensures taken { Takes E.EditStore edits.old (Ok (proposal_of edit)) (reply_of_code result)
         edits.new }
-    ensures owes { E.owes edits.new → E.owes edits.old }
+    ensures owes { E.owes edits.new ↔ E.owes edits.old }
 {
     match edits.submit(edit) {
         Ok(revision) => Reply::Revision(revision),
