@@ -7,14 +7,15 @@ use crate::serving::moment;
 use fp_connections::Host;
 use fp_conversations::{EditorEnd, SubscriberFault, editor_loop, subscriber_loop};
 use fp_disk::Disk;
-use fp_http::{Blocking, TimeLimits, serve_ofrep};
+use fp_http::{Blocking, Note, TimeLimits, serve_ofrep};
 use fp_log::Port;
 use fp_plane::{Naming, Plane, SealingPlane};
 use fp_publish::{MOST_EVALUATORS, MOST_SEATS};
 use fp_stream::HelloFault;
 use fp_streams::{FailureCounted, StreamFault};
+use std::alloc::{AllocError, Global};
 use std::cell::Cell;
-use std::io::{BufWriter, ErrorKind};
+use std::io::{BufWriter, ErrorKind, Read, Write};
 use std::net::TcpStream;
 use std::rc::Rc;
 use std::time::Duration;
@@ -76,21 +77,25 @@ where
     }
 }
 
+// A note of why a connection was stopped, which two hold.
+fn notes(alloc: Global) -> Result<(Note, Note), AllocError> {
+    let note = Rc::new(alloc, Cell::new(None))?;
+    let kept = note.clone()?;
+    Ok((note, kept))
+}
+
 fn evaluate<K, R>(rt: &R, limits: TimeLimits, plane: &Plane<K, R>, stream: TcpStream) -> Ended
 where
     K: Naming,
     R: Host,
 {
+    let Ok((note, kept)) = notes(rt.alloc()) else {
+        return Ended::Fault(ErrorKind::OutOfMemory);
+    };
     let evaluator = match LentEvaluator::of(plane) {
         Ok(evaluator) => evaluator,
         Err(LoanFault::Used) => return Ended::NoPlace,
         Err(LoanFault::Memory) => return Ended::Fault(ErrorKind::OutOfMemory),
-    };
-    let Ok(note) = Rc::new(rt.alloc(), Cell::new(None)) else {
-        return Ended::Fault(ErrorKind::OutOfMemory);
-    };
-    let Ok(kept) = note.clone() else {
-        return Ended::Fault(ErrorKind::OutOfMemory);
     };
     let clock = *rt;
     let connection = Blocking::new(stream, clock, limits, note);
@@ -114,13 +119,31 @@ where
     };
     let mut r = FailureCounted::new(Noted::new(stream));
     let mut w = FailureCounted::new(gathered);
-    match editor_loop(plane, rt.alloc(), &mut r, &mut w) {
-        Ok(EditorEnd::Served(_told)) => Ended::ByPeer,
-        Ok(EditorEnd::HttpRequest) => Ended::HttpRequest,
-        Err((StreamFault::Memory, _)) => Ended::Fault(ErrorKind::OutOfMemory),
-        Err((StreamFault::Device, _)) => {
-            of_streams(w.get_ref().get_ref().ended(), r.get_ref().ended())
-        }
+    match edit_over(rt, plane, &mut r, &mut w) {
+        Some(ended) => ended,
+        None => of_streams(w.get_ref().get_ref().ended(), r.get_ref().ended()),
+    }
+}
+
+// Why an editor's connection ended, but where its streams say it.
+fn edit_over<K, D, R, I, O>(
+    rt: &R,
+    plane: &SealingPlane<K, D, R>,
+    r: &mut FailureCounted<I>,
+    w: &mut FailureCounted<O>,
+) -> Option<Ended>
+where
+    K: Naming,
+    D: Disk + Drop,
+    R: Host,
+    I: Read,
+    O: Write,
+{
+    match editor_loop(plane, rt.alloc(), r, w) {
+        Ok(EditorEnd::Served(_told)) => Some(Ended::ByPeer),
+        Ok(EditorEnd::HttpRequest) => Some(Ended::HttpRequest),
+        Err((StreamFault::Memory, _)) => Some(Ended::Fault(ErrorKind::OutOfMemory)),
+        Err((StreamFault::Device, _)) => None,
     }
 }
 
@@ -131,13 +154,28 @@ where
 {
     let mut r = FailureCounted::new(Noted::new(stream));
     let mut w = FailureCounted::new(Noted::new(stream));
-    match subscriber_loop(plane, &mut r, &mut w, || has_left(stream)) {
-        Ok(()) => Ended::ByPeer,
-        Err(SubscriberFault::Hello(HelloFault::Device)) | Err(SubscriberFault::Device) => {
-            of_streams(w.get_ref().ended(), r.get_ref().ended())
-        }
-        Err(SubscriberFault::Hello(_)) => Ended::NoHello,
-        Err(SubscriberFault::SeatsUsed) => Ended::NoPlace,
+    match subscribe_over(plane, stream, &mut r, &mut w) {
+        Some(ended) => ended,
+        None => of_streams(w.get_ref().ended(), r.get_ref().ended()),
+    }
+}
+
+// Why a subscriber's connection ended, but where its streams say it.
+fn subscribe_over<K, R>(
+    plane: &Plane<K, R>,
+    stream: &TcpStream,
+    r: &mut FailureCounted<Noted<'_>>,
+    w: &mut FailureCounted<Noted<'_>>,
+) -> Option<Ended>
+where
+    K: Naming,
+    R: Host,
+{
+    match subscriber_loop(plane, r, w, || has_left(stream)) {
+        Ok(()) => Some(Ended::ByPeer),
+        Err(SubscriberFault::Hello(HelloFault::Device)) | Err(SubscriberFault::Device) => None,
+        Err(SubscriberFault::Hello(_)) => Some(Ended::NoHello),
+        Err(SubscriberFault::SeatsUsed) => Some(Ended::NoPlace),
     }
 }
 

@@ -25,6 +25,7 @@ use fp_http::TimeLimits;
 use fp_log::{Event, tell};
 use fp_plane::{Flushed, Naming, OwnHalf, Plane, SealingPlane, flusher};
 use fp_streams::FailureCounted;
+use std::alloc::AllocError;
 use std::io::{Read, Write};
 use std::marker::Brand;
 use std::snapshot::Snapshot;
@@ -191,6 +192,9 @@ fn still<D: Disk>(half: &StoreHalf<D>)
 /// A store's half that isn't served any more, and why where that was by a fault.
 type GivenHalf<D> = Result<StoreHalf<D>, (CommandFault, StoreHalf<D>)>;
 
+// Two handles of one plane.
+type Planes<K, D, R> = (SealingPlane<K, D, R>, SealingPlane<K, D, R>);
+
 // Serves a committer over the plane of its name.
 fn serve_named<K, D, R, I, O>(
     rt: &R,
@@ -222,16 +226,9 @@ where
         ≡ r.old.failures + w.old.failures) }
 {
     still(&half);
-    let plane: Plane<K, R> = match Plane::new(*rt, rt.alloc(), desk) {
-        Ok(plane) => plane,
+    let (plane, flushed) = match planes::<K, D, R>(rt, desk) {
+        Ok(planes) => planes,
         Err(fault) => return Err((fault.into(), half)),
-    };
-    let plane: SealingPlane<K, D, R> = match SealingPlane::new(rt.alloc(), plane) {
-        Ok(plane) => plane,
-        Err(fault) => return Err((fault.into(), half)),
-    };
-    let Ok(flushed) = plane.try_copy() else {
-        return Err((CommandFault::Memory, half));
     };
     let own = OwnHalf::new(half);
     let promise = FlushesFrom(Snapshot::of(&own));
@@ -250,6 +247,21 @@ where
             Err((CommandFault::Device, flusher(&plane, here).half.into_half()))
         }
     }
+}
+
+// A plane over the desk's half, and a handle of it for its flusher.
+fn planes<K, D, R>(rt: &R, desk: DeskHalf) -> Result<Planes<K, D, R>, AllocError>
+where
+    K: Naming,
+    D: Disk + Drop,
+    R: Host,
+    requires desk { IsDeskOf K.store K.desk_lists K.store_lists desk }
+    requires fresh { IsNewDesk desk.desk }
+{
+    let plane = Plane::new(*rt, rt.alloc(), desk)?;
+    let plane = SealingPlane::new(rt.alloc(), plane)?;
+    let flushed = plane.try_copy()?;
+    Ok((plane, flushed))
 }
 
 /// What a flusher that began with this half promises.

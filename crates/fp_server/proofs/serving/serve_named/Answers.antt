@@ -25,14 +25,12 @@ spawn_with-requires-send-T g c κs within = param_send 3 _ (arg_send _ no _ (flu
 never_failed : (f : CommandFault) → f ≡ Memory → f ≢ StoreFailed
 never_failed f is failed = let both : Memory ≡ StoreFailed = sym is ∙ failed in absurd cc
 
+no_failure : Device ≢ StoreFailed
+no_failure failed = absurd cc
+
 pub returns-in-Err-clause-broken : goal.returns-in-Err-clause-broken
 returns-in-Err-clause-broken g c =
     untouched_half g.D.Disk c.args.half c.still.ensures c.into.result (never_failed c.into.result c.into.ensures)
-
-pub returns-in_default-clause-broken : goal.returns-in_default-clause-broken
-returns-in_default-clause-broken g c =
-    untouched_half g.D.Disk c.args.half c.still.ensures Memory
-    (λ failed. (let both : Memory ≡ StoreFailed = failed in absurd cc))
 
 pub returns-in-Err-spawn_with-clause-broken : goal.returns-in-Err-spawn_with-clause-broken
 returns-in-Err-spawn_with-clause-broken g c =
@@ -42,10 +40,5 @@ returns-in-Err-spawn_with-clause-broken g c =
     rw (c.into_half.ensures) (record {
       ended = c.flusher.result.ended;
       flushed = c.flusher.ensures c.args.half is;
-      cause = λ failed. (let both : Device ≡ StoreFailed = failed in absurd cc);
+      cause = λ failed. absurd (no_failure failed);
     })
-
-pub returns-in-Err-new-clause-broken : goal.returns-in-Err-new-clause-broken
-returns-in-Err-new-clause-broken g c =
-    untouched_half g.D.Disk c.args.half c.still.ensures c.into-in-Err-new.result
-    (never_failed c.into-in-Err-new.result c.into-in-Err-new.ensures)
