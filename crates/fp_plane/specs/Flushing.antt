@@ -34,18 +34,19 @@ pub record PaysFirst {D : Type 0} (disk : Ghosts D) (owed : Bool) (a b : StoreHa
   pub first : PaysOwed disk.faults owed a paid
   pub course : Course disk paid b
 
--- the half behind a batch, and behind the step that the batch owed
+-- the half where a turn's batches end, and behind the step that follows
 pub record Turn (D : Type 0) : Type 0 where
   pub sealed : StoreHalfState D
   pub paid : StoreHalfState D
 
--- from one half to another by turns: each is a course to where a step is due or not, and that step
+-- from one half to another by turns: each is a course, mostly of one batch, and the step behind it,
+-- where one is due
 abbrev pub Turns : {D : Type 0} → Ghosts D → StoreHalfState D → List (Turn D) → StoreHalfState D → Type 0
 Turns disk a [] b = b ≡ a
 Turns disk a (t ∷ ts) b = Course disk a t.sealed
     × StepsWhereDue disk.faults t.sealed.store t.paid.store × Turns disk t.paid ts b
 
--- The step that was owed was taken first, and one behind each batch
+-- The step that was owed was taken first, and one at the end of each turn
 pub record PaysEach {D : Type 0} (disk : Ghosts D) (owed : Bool) (a b : StoreHalfState D) : Type 0 where
   pub paid : StoreHalfState D
   pub first : PaysOwed disk.faults owed a paid

@@ -99,7 +99,7 @@ where
     ensures cause { OnErr result ((D.faults half.old.store.disk < D.faults half.new.store.disk)
         ⊎ LacksRoom D.Disk half.new) }
     ensures alone { IfOk result (λ p. p ≡ Alone → gathering.new.alone ≡ true) }
-    // The step that is owed is taken first, and one behind each batch.
+    // The step that is owed is taken first, and one at the end of each turn.
     ensures steps { OnOk result (PaysEach D.Disk owes_step.old half.old half.new) }
     ensures paid { OnOk result (owes_step.new ≡ false) }
 {

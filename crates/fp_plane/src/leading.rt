@@ -197,7 +197,7 @@ impl<K: Naming, D: Disk + Drop> Lying<K, D> {
         R: Wait + Clock + Log + Drop,
         ensures over { IfSome result (λ ended. self.new.broken ≡ is_err ended) }
         ensures on { IfNone result ((self.new.broken ≡ false) × (self.new.alone ≡ true)) }
-        // The step that was owed is taken first, and one behind each batch.
+        // The step that was owed is taken first, and one at the end of each turn.
         ensures steps { self.old.broken ≡ false → self.new.broken ≡ false
             → PaysEach D.Disk self.old.owes_step self.old.half self.new.half }
         // No step is owed where it pauses.

@@ -89,13 +89,13 @@ where
     K: Naming,
     R: Host,
 {
-    let Ok((note, kept)) = notes(rt.alloc()) else {
-        return Ended::Fault(ErrorKind::OutOfMemory);
-    };
     let evaluator = match LentEvaluator::of(plane) {
         Ok(evaluator) => evaluator,
         Err(LoanFault::Used) => return Ended::NoPlace,
         Err(LoanFault::Memory) => return Ended::Fault(ErrorKind::OutOfMemory),
+    };
+    let Ok((note, kept)) = notes(rt.alloc()) else {
+        return Ended::Fault(ErrorKind::OutOfMemory);
     };
     let clock = *rt;
     let connection = Blocking::new(stream, clock, limits, note);
