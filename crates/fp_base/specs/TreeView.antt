@@ -17,8 +17,8 @@ tree_step Tree-F.Null = null
 tree_step (Tree-F.Bool b) = boolean b
 tree_step (Tree-F.Number x) = number (number_view x)
 tree_step (Tree-F.String s) = string s.now
-tree_step (Tree-F.Array v) = array (items_of v.items)
-tree_step (Tree-F.Object v) = object (members_of v.items)
+tree_step (Tree-F.Array v) = array (items_of v.now)
+tree_step (Tree-F.Object v) = object (members_of v.now)
 
 abbrev pub tree_view : Tree → Data
 tree_view = fold-Tree Data tree_step

@@ -1,6 +1,6 @@
 //! The members of an object, gathered as they are read.
 
-ghost use Rattle.std.specs.Prelude.{◌≡◌, ◌++◌, length, reverse, true, IfOk, OnOk};
+ghost use Rattle.std.specs.Prelude.{◌≡◌, ◌++◌, [], length, reverse, true, IfOk, OnOk};
 ghost use Rattle.std.specs.Cmp.Lexicographic.{slice_cmp};
 ghost use Rattle.std.specs.Ordering.{nat_cmp};
 ghost use Rattle.serde_json.specs.Data.{no_members, put};
@@ -34,12 +34,14 @@ pub(crate) struct Gathered<'a> {
 }
 
 impl<'a> Gathered<'a> {
-    pub(crate) fn new(alloc: Global) -> Gathered<'a>
+    // No members, in a vector that was emptied.
+    pub(crate) fn new(alloc: Global, emptied: Vec<(&'a str, Tree<'a>)>) -> Gathered<'a>
+        requires { emptied.items ≡ [] }
         ensures none { gathered result ≡ no_members }
         ensures kept { IsGathered result }
     {
         Gathered {
-            ordered: Vec::new(alloc),
+            ordered: emptied,
             waiting: Vec::new(alloc),
         }
     }

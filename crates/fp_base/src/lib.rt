@@ -8,6 +8,7 @@ mod members;
 mod numbers;
 mod owning;
 mod places;
+mod spares;
 mod texts;
 mod tree;
 mod tree_reading;

@@ -8,6 +8,8 @@ ghost use Rattle.fp_base.specs.TreeView.{tree_view, tree_items, tree_members};
 
 use crate::numbers::number_tree;
 use crate::tree::Tree;
+use bumpalo::Bump;
+use bumpalo::collections::into_bump_slice;
 use serde_json::{Map, Value};
 use std::alloc::{AllocError, Global};
 
@@ -21,13 +23,14 @@ impl<'a> Tree<'a> {
         owned(alloc, self)
     }
 
-    /// The tree of the same data, which borrows the value's texts.
-    pub fn of_value(alloc: Global, value: &'a Value) -> Result<Tree<'a>, AllocError>
+    /// The tree of the same data, which borrows the value's texts. Its lists and objects stand in
+    /// the arena.
+    pub fn of_value(arena: &'a Bump, value: &'a Value) -> Result<Tree<'a>, AllocError>
         ensures same { IfOk result (λ t. tree_view t ≡ view value.now) }
         // `Ok`: it is ordered.
         ensures ordered { IfOk result (λ t. IsOrdered (tree_view t)) }
     {
-        lent(alloc, value)
+        lent(arena, value)
     }
 }
 
@@ -46,9 +49,9 @@ fn owned(alloc: Global, tree: &Tree<'_>) -> Result<Value, AllocError>
 }
 
 #[cycle(owns)]
-fn owned_items(alloc: Global, items: &Vec<Tree<'_>>) -> Result<Vec<Value>, AllocError>
-    ensures { AreOrdered (tree_items items.now.items)
-        → IfOk result (λ found. items_view found.items ≡ tree_items items.now.items) }
+fn owned_items(alloc: Global, items: &[Tree<'_>]) -> Result<Vec<Value>, AllocError>
+    ensures { AreOrdered (tree_items items.now)
+        → IfOk result (λ found. items_view found.items ≡ tree_items items.now) }
 {
     let mut found = Vec::with_capacity(alloc, items.len())?;
     for item in items {
@@ -60,11 +63,11 @@ fn owned_items(alloc: Global, items: &Vec<Tree<'_>>) -> Result<Vec<Value>, Alloc
 #[cycle(owns)]
 fn owned_members(
     alloc: Global,
-    members: &Vec<(&str, Tree<'_>)>,
+    members: &[(&str, Tree<'_>)],
 ) -> Result<Map<String, Value>, AllocError>
-    ensures { IsSorted (tree_members members.now.items)
-        → MembersAreOrdered (tree_members members.now.items)
-        → IfOk result (λ found. members_view found.entries ≡ tree_members members.now.items) }
+    ensures { IsSorted (tree_members members.now)
+        → MembersAreOrdered (tree_members members.now)
+        → IfOk result (λ found. members_view found.entries ≡ tree_members members.now) }
 {
     let mut found = Vec::with_capacity(alloc, members.len())?;
     for member in members {
@@ -75,7 +78,7 @@ fn owned_members(
 }
 
 #[cycle(lends)]
-fn lent<'a>(alloc: Global, value: &'a Value) -> Result<Tree<'a>, AllocError>
+fn lent<'a>(arena: &'a Bump, value: &'a Value) -> Result<Tree<'a>, AllocError>
     ensures same { IfOk result (λ t. tree_view t ≡ view value.now) }
     ensures ordered { IfOk result (λ t. IsOrdered (tree_view t)) }
 {
@@ -84,36 +87,36 @@ fn lent<'a>(alloc: Global, value: &'a Value) -> Result<Tree<'a>, AllocError>
         Value::Bool(b) => Ok(Tree::Bool(*b)),
         Value::Number(number) => Ok(number_tree(number)),
         Value::String(text) => Ok(Tree::String(text.as_str())),
-        Value::Array(items) => Ok(Tree::Array(lent_items(alloc, items)?)),
-        Value::Object(members) => Ok(Tree::Object(lent_members(alloc, members)?)),
+        Value::Array(items) => Ok(Tree::Array(lent_items(arena, items)?)),
+        Value::Object(members) => Ok(Tree::Object(lent_members(arena, members)?)),
     }
 }
 
 #[cycle(lends)]
-fn lent_items<'a>(alloc: Global, items: &'a Vec<Value>) -> Result<Vec<Tree<'a>>, AllocError>
-    ensures same { IfOk result (λ found. tree_items found.items ≡ items_view items.now.items) }
-    ensures ordered { IfOk result (λ found. AreOrdered (tree_items found.items)) }
+fn lent_items<'a>(arena: &'a Bump, items: &'a Vec<Value>) -> Result<&'a [Tree<'a>], AllocError>
+    ensures same { IfOk result (λ found. tree_items found.now ≡ items_view items.now.items) }
+    ensures ordered { IfOk result (λ found. AreOrdered (tree_items found.now)) }
 {
-    let mut found = Vec::with_capacity(alloc, items.len())?;
+    let mut found = Vec::with_capacity(arena, items.len())?;
     for item in items {
-        found.push(lent(alloc, item)?)?;
+        found.push(lent(arena, item)?)?;
     }
-    Ok(found)
+    Ok(into_bump_slice(found))
 }
 
 #[cycle(lends)]
 fn lent_members<'a>(
-    alloc: Global,
+    arena: &'a Bump,
     members: &'a Map<String, Value>,
-) -> Result<Vec<(&'a str, Tree<'a>)>, AllocError>
+) -> Result<&'a [(&'a str, Tree<'a>)], AllocError>
     ensures same { IfOk result (λ found.
-        tree_members found.items ≡ members_view members.now.entries) }
-    ensures sorted { IfOk result (λ found. IsSorted (tree_members found.items)) }
-    ensures ordered { IfOk result (λ found. MembersAreOrdered (tree_members found.items)) }
+        tree_members found.now ≡ members_view members.now.entries) }
+    ensures sorted { IfOk result (λ found. IsSorted (tree_members found.now)) }
+    ensures ordered { IfOk result (λ found. MembersAreOrdered (tree_members found.now)) }
 {
-    let mut found = Vec::with_capacity(alloc, members.len())?;
+    let mut found = Vec::with_capacity(arena, members.len())?;
     for (name, member) in members.iter() {
-        found.push((name.as_str(), lent(alloc, member)?))?;
+        found.push((name.as_str(), lent(arena, member)?))?;
     }
-    Ok(found)
+    Ok(into_bump_slice(found))
 }

@@ -7,16 +7,17 @@ ghost use Rattle.fp_base.specs.TreeView.{tree_view, tree_members};
 
 use serde_json::Number;
 
-/// A JSON value that borrows its texts from what it was read from. Clauses see it as its data
-/// (`tree_view`), as they see a `serde_json::Value`.
-#[derive(Debug, Drop)]
+/// A JSON value that borrows its texts from what it was read from, and its lists and objects from
+/// the arena that it was read into. Clauses see it as its data (`tree_view`), as they see a
+/// `serde_json::Value`.
+#[derive(Clone, Copy)]
 pub enum Tree<'a> {
     Null,
     Bool(bool),
     Number(Number),
     String(&'a str),
-    Array(Vec<Tree<'a>>),
-    Object(Vec<(&'a str, Tree<'a>)>),
+    Array(&'a [Tree<'a>]),
+    Object(&'a [(&'a str, Tree<'a>)]),
 }
 
 impl<'a> Tree<'a> {

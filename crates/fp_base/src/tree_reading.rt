@@ -12,8 +12,10 @@ ghost use Rattle.fp_base.specs.TreeView.{tree_view, tree_items, tree_members};
 
 use crate::gathering::Gathered;
 use crate::numbers::{number_in, number_tree};
+use crate::spares::Spares;
 use crate::texts::utf8_text;
 use crate::tree::Tree;
+use bumpalo::Bump;
 use json::{Invalid, Reader, Scratch, Token};
 use std::alloc::{AllocError, AllocFailed, Global};
 
@@ -57,11 +59,24 @@ impl<T: Drop> From<AllocFailed<T>> for Stop {
     }
 }
 
+// Where lists and objects stand once they are read, and vectors for those that are being read.
+#[derive(Drop)]
+struct Room<'a> {
+    alloc: Global,
+    arena: &'a Bump,
+    lists: Spares<'a, Tree<'a>>,
+    objects: Spares<'a, (&'a str, Tree<'a>)>,
+}
+
 /// The tree of the data that the bytes spell, which borrows its texts; `None` exactly where they
 /// are no JSON. A number out of range is no JSON; of members of one name the last counts.
+///
+/// Lists and objects stand in the arena, each in as much room as it has items or members. The values
+/// of members that a later one replaces stay there, too.
 #[tactic(auto, using(crate::proofs::Parsed::whole_texts, crate::proofs::Reading::json_of_refused))]
 pub fn read_tree<'a>(
     alloc: Global,
+    arena: &'a Bump,
     bytes: &'a [u8],
     scratch: &'a mut Scratch,
 ) -> Result<Option<Tree<'a>>, AllocError>
@@ -73,7 +88,13 @@ pub fn read_tree<'a>(
         return Ok(None);
     };
     let mut reader = Reader::new(text, scratch)?;
-    match read(alloc, &mut reader, DEEPEST_JSON) {
+    let mut room = Room {
+        alloc,
+        arena,
+        lists: Spares::new(arena),
+        objects: Spares::new(arena),
+    };
+    match read(&mut room, &mut reader, DEEPEST_JSON) {
         Ok(tree) => {
             if reader.next().is_some() {
                 return Ok(None);
@@ -88,7 +109,7 @@ pub fn read_tree<'a>(
 // The next value of the reader. Lists and objects may nest `depth` deep.
 #[cycle(read)]
 #[tactic(auto, using(crate::proofs::Views::scalars))]
-fn read<'a>(alloc: Global, reader: &mut Reader<'a>, depth: usize) -> Result<Tree<'a>, Stop>
+fn read<'a>(room: &mut Room<'a>, reader: &mut Reader<'a>, depth: usize) -> Result<Tree<'a>, Stop>
     ensures ok { IfOk result (λ t.
         converted of_json (value depth reader.old) ≡ Some (tree_view t, reader.new)) }
     ensures ordered { IfOk result (λ t. IsOrdered (tree_view t)) }
@@ -110,13 +131,13 @@ fn read<'a>(alloc: Global, reader: &mut Reader<'a>, depth: usize) -> Result<Tree
             if depth == 0 {
                 return Err(Stop::NotJson);
             }
-            Ok(Tree::Array(read_items(alloc, reader, depth - 1)?))
+            Ok(Tree::Array(read_items(room, reader, depth - 1)?))
         }
         Token::BeginObject => {
             if depth == 0 {
                 return Err(Stop::NotJson);
             }
-            Ok(Tree::Object(read_members(alloc, reader, depth - 1)?))
+            Ok(Tree::Object(read_members(room, reader, depth - 1)?))
         }
     }
 }
@@ -124,47 +145,52 @@ fn read<'a>(alloc: Global, reader: &mut Reader<'a>, depth: usize) -> Result<Tree
 #[cycle(read)]
 #[tactic(auto, using(crate::proofs::Parsed::item_turns, crate::proofs::Read::items_read))]
 fn read_items<'a>(
-    alloc: Global,
+    room: &mut Room<'a>,
     reader: &mut Reader<'a>,
     depth: usize,
-) -> Result<Vec<Tree<'a>>, Stop>
+) -> Result<&'a [Tree<'a>], Stop>
     ensures ok { IfOk result (λ v.
         converted of_items (items (value depth) (length reader.old) reader.old)
-        ≡ Some (tree_items v.items, reader.new)) }
-    ensures ordered { IfOk result (λ v. AreOrdered (tree_items v.items)) }
+        ≡ Some (tree_items v.now, reader.new)) }
+    ensures ordered { IfOk result (λ v. AreOrdered (tree_items v.now)) }
     ensures shorter { OnOk result (length reader.new < length reader.old) }
     ensures refused { result ≡ Err Stop.NotJson
         → converted of_items (items (value depth) (length reader.old) reader.old) ≡ None }
 {
-    let mut found = Vec::new(alloc);
+    let mut found = room.lists.take(room.alloc);
     'items: while !reader.take_end_array() {
-        let item = read(alloc, reader, depth)?;
+        let item = read(room, reader, depth)?;
         found.push(item)?;
     }
-    Ok(found)
+    let items = room.arena.try_alloc_slice_copy(&found)?;
+    room.lists.keep(found);
+    Ok(items)
 }
 
 #[cycle(read)]
 fn read_members<'a>(
-    alloc: Global,
+    room: &mut Room<'a>,
     reader: &mut Reader<'a>,
     depth: usize,
-) -> Result<Vec<(&'a str, Tree<'a>)>, Stop>
+) -> Result<&'a [(&'a str, Tree<'a>)], Stop>
     ensures ok { IfOk result (λ v.
         converted (λ ms. of_members ms no_members)
         (members (value depth) (length reader.old) reader.old)
-        ≡ Some (tree_members v.items, reader.new)) }
-    ensures sorted { IfOk result (λ v. IsSorted (tree_members v.items)) }
-    ensures ordered { IfOk result (λ v. MembersAreOrdered (tree_members v.items)) }
+        ≡ Some (tree_members v.now, reader.new)) }
+    ensures sorted { IfOk result (λ v. IsSorted (tree_members v.now)) }
+    ensures ordered { IfOk result (λ v. MembersAreOrdered (tree_members v.now)) }
     ensures shorter { OnOk result (length reader.new < length reader.old) }
     ensures refused { result ≡ Err Stop.NotJson
         → converted (λ ms. of_members ms no_members)
         (members (value depth) (length reader.old) reader.old) ≡ None }
 {
-    let mut found = Gathered::new(alloc);
+    let mut found = Gathered::new(room.alloc, room.objects.take(room.alloc));
     'members: while let Some(name) = reader.next_key()? {
-        let member = read(alloc, reader, depth)?;
-        found.put(alloc, name, member)?;
+        let member = read(room, reader, depth)?;
+        found.put(room.alloc, name, member)?;
     }
-    Ok(found.into_members(alloc)?)
+    let found = found.into_members(room.alloc)?;
+    let members = room.arena.try_alloc_slice_copy(&found)?;
+    room.objects.keep(found);
+    Ok(members)
 }

@@ -71,11 +71,11 @@ fn put_tree(out: &mut Vec<u8>, tree: &Tree<'_>) -> Result<(), AllocError>
 }
 
 #[cycle(puts)]
-fn put_items(out: &mut Vec<u8>, items: &Vec<Tree<'_>>) -> Result<(), AllocError>
-    requires { items_whole (tree_items items.now.items) ≡ true }
+fn put_items(out: &mut Vec<u8>, items: &[Tree<'_>]) -> Result<(), AllocError>
+    requires { items_whole (tree_items items.now) ≡ true }
     ensures text { OnOk result (out.new.items
-        ≡ out.old.items ++ 91 ∷ items_text false (tree_items items.now.items)) }
-    ensures printed { OnOk result (IsPrinted (array (tree_items items.now.items))) }
+        ≡ out.old.items ++ 91 ∷ items_text false (tree_items items.now)) }
+    ensures printed { OnOk result (IsPrinted (array (tree_items items.now))) }
 {
     out.push(b'[')?;
     let mut later = false;
@@ -89,11 +89,11 @@ fn put_items(out: &mut Vec<u8>, items: &Vec<Tree<'_>>) -> Result<(), AllocError>
 }
 
 #[cycle(puts)]
-fn put_members(out: &mut Vec<u8>, members: &Vec<(&str, Tree<'_>)>) -> Result<(), AllocError>
-    requires { members_whole (tree_members members.now.items) ≡ true }
+fn put_members(out: &mut Vec<u8>, members: &[(&str, Tree<'_>)]) -> Result<(), AllocError>
+    requires { members_whole (tree_members members.now) ≡ true }
     ensures text { OnOk result (out.new.items
-        ≡ out.old.items ++ 123 ∷ members_text false (tree_members members.now.items)) }
-    ensures printed { OnOk result (IsPrinted (object (tree_members members.now.items))) }
+        ≡ out.old.items ++ 123 ∷ members_text false (tree_members members.now)) }
+    ensures printed { OnOk result (IsPrinted (object (tree_members members.now))) }
 {
     out.push(b'{')?;
     let mut later = false;

@@ -15,8 +15,10 @@ ghost use Rattle.fp_canonical.specs.Reads.{Ends, Reads, ReadsItems, ReadsMembers
 ghost use Rattle.fp_canonical.specs.declared.reading.Unread.TheVariants.{Memory};
 
 use crate::cursor::Cursor;
+use bumpalo::Bump;
+use bumpalo::collections::into_bump_slice;
 use fp_base::Tree;
-use std::alloc::{AllocError, AllocFailed, Global};
+use std::alloc::{AllocError, AllocFailed};
 
 /// Why nothing was read.
 #[derive(Debug, Drop)]
@@ -132,10 +134,11 @@ fn comes_last(members: &[(&str, Tree<'_>)], name: &str) -> bool
     }
 }
 
-/// The tree of the data whose canonical text comes next. Lists and objects may nest `depth` deep.
+/// The tree of the data whose canonical text comes next, with its lists and objects in the arena.
+/// These may nest `depth` deep.
 #[cycle(read)]
 pub fn read_value<'a>(
-    alloc: Global,
+    arena: &'a Bump,
     cursor: &mut Cursor<'a>,
     depth: u32,
 ) -> Result<Tree<'a>, Unread>
@@ -149,58 +152,59 @@ pub fn read_value<'a>(
         if depth == 0 {
             return Err(Unread::NotCanonical);
         }
-        return Ok(Tree::Object(read_members(alloc, cursor, depth - 1)?));
+        return Ok(Tree::Object(read_members(arena, cursor, depth - 1)?));
     }
     if cursor.take(b'[') {
         if depth == 0 {
             return Err(Unread::NotCanonical);
         }
-        return Ok(Tree::Array(read_items(alloc, cursor, depth - 1)?));
+        return Ok(Tree::Array(read_items(arena, cursor, depth - 1)?));
     }
     read_scalar(cursor)
 }
 
 #[cycle(read)]
 fn read_items<'a>(
-    alloc: Global,
+    arena: &'a Bump,
     cursor: &mut Cursor<'a>,
     depth: u32,
-) -> Result<Vec<Tree<'a>>, Unread>
+) -> Result<&'a [Tree<'a>], Unread>
     ensures read { IfOk result (λ v.
-        ReadsItems depth false (tree_items v.items) cursor.old cursor.new) }
+        ReadsItems depth false (tree_items v.now) cursor.old cursor.new) }
     ensures shorter { OnOk result (length cursor.new < length cursor.old) }
     ensures taken { (ds : Items) (left : List ℕ) → ReadsItems depth false ds cursor.old left
         → MatchResult result (λ _. cursor.new ≡ left) (λ e. e ≡ Memory) }
 {
-    let mut found = Vec::new(alloc);
+    let mut found: Vec<Tree<'a>, &'a Bump> = Vec::new(arena);
     let mut later = false;
     'items: while cursor.next_item(later)? {
-        let item = read_value(alloc, cursor, depth)?;
-        found.push(item)?;
+        let item = read_value(arena, cursor, depth)?;
+        found.reserve(1)?;
+        found.push_reserved(item);
         later = true;
     }
-    Ok(found)
+    Ok(into_bump_slice(found))
 }
 
 #[cycle(read)]
 fn read_members<'a>(
-    alloc: Global,
+    arena: &'a Bump,
     cursor: &mut Cursor<'a>,
     depth: u32,
-) -> Result<Vec<(&'a str, Tree<'a>)>, Unread>
+) -> Result<&'a [(&'a str, Tree<'a>)], Unread>
     ensures read { IfOk result (λ v.
-        ReadsMembers depth false (tree_members v.items) cursor.old cursor.new) }
-    ensures sorted { IfOk result (λ v. IsSorted (tree_members v.items)) }
+        ReadsMembers depth false (tree_members v.now) cursor.old cursor.new) }
+    ensures sorted { IfOk result (λ v. IsSorted (tree_members v.now)) }
     ensures shorter { OnOk result (length cursor.new < length cursor.old) }
     ensures taken { (ms : Members) (left : List ℕ) → ReadsMembers depth false ms cursor.old left
         → IsSorted ms → MatchResult result (λ _. cursor.new ≡ left) (λ e. e ≡ Memory) }
 {
-    let mut found: Vec<(&'a str, Tree<'a>)> = Vec::new(alloc);
+    let mut found: Vec<(&'a str, Tree<'a>), &'a Bump> = Vec::new(arena);
     'members: while let Some(name) = cursor.next_name(found.as_slice())? {
-        let value = read_value(alloc, cursor, depth)?;
+        let value = read_value(arena, cursor, depth)?;
         found.push((name, value))?;
     }
-    Ok(found)
+    Ok(into_bump_slice(found))
 }
 
 // A string, a number, `true`, `false` or `null`.

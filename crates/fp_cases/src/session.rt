@@ -9,6 +9,7 @@ use crate::shapes::{Shapes, add_shape};
 use crate::shown::shown_set;
 use crate::streams::Subscriber;
 use crate::{definitions, edits, imports, operators, records, rules, seeded, values};
+use bumpalo::Bump;
 use fp_base::{Tree, read_json, read_tree};
 use fp_definition::{DefFault, Definition, FlagKey, KeyFault};
 use fp_edit::FlagSet;
@@ -198,20 +199,28 @@ impl Session {
 
     fn run_read_tree(&self, word: &str, first: &str, operand: &[u8], out: &mut Text) {
         let mut scratch = Scratch::new(out.alloc);
-        match read_tree(out.alloc, operand, &mut scratch) {
-            Ok(Some(tree)) => self.run_tree(word, first, tree, out),
+        let arena = Bump::new(out.alloc);
+        match read_tree(out.alloc, &arena, operand, &mut scratch) {
+            Ok(Some(tree)) => self.run_tree(&arena, word, first, &tree, out),
             Ok(None) => out.push("no JSON"),
             Err(_) => out.is_short = true,
         }
     }
 
-    fn run_tree(&self, word: &str, first: &str, tree: Tree<'_>, out: &mut Text)
-        requires { IsOrdered (tree_view tree) }
+    fn run_tree<'a>(
+        &self,
+        arena: &'a Bump,
+        word: &str,
+        first: &str,
+        tree: &Tree<'a>,
+        out: &mut Text,
+    )
+        requires { IsOrdered (tree_view tree.now) }
     {
         if word == "import" {
-            return imports::imported(expand_tree(out.alloc, tree), out);
+            return imports::imported(expand_tree(out.alloc, arena, tree), out);
         }
-        self.run_shown_tree(word, first, &tree, out)
+        self.run_shown_tree(word, first, tree, out)
     }
 
     // Commands that only read their tree.

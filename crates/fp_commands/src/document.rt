@@ -8,6 +8,7 @@ ghost use Rattle.fp_commands.specs.Documents.{import_of, IsDocumentFault};
 ghost use Rattle.fp_commands.specs.declared.fault.CommandFault.TheVariants.{Device};
 
 use crate::fault::CommandFault;
+use bumpalo::Bump;
 use fp_base::read_tree;
 use fp_definition::{Definition, FlagKey};
 use fp_imports::{ImportFault, expand_tree};
@@ -39,8 +40,9 @@ fn flags_of(alloc: Global, bytes: &[u8]) -> Result<Vec<(FlagKey, Definition)>, I
     ensures refused { IfErr result (λ f. Tells f (λ e. import_of bytes.now ≡ Err e)) }
 {
     let mut scratch = Scratch::new(alloc);
-    match read_tree(alloc, bytes, &mut scratch)? {
-        Some(document) => expand_tree(alloc, document),
+    let arena = Bump::new(alloc);
+    match read_tree(alloc, &arena, bytes, &mut scratch)? {
+        Some(document) => expand_tree(alloc, &arena, &document),
         None => Err(ImportFault::NotDocument),
     }
 }

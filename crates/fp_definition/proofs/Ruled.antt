@@ -1,5 +1,6 @@
 -- What the object of `targeting` writes: no rule without members, and else the one that is accepted.
-use Rattle.std.proofs.Common.{◌≡◌, List, [], ◌∷◌, Vec, Global, length, None, Some, Ok, refl, sym, ap, ◌∙◌}
+use Rattle.std.proofs.Common.{◌≡◌, List, [], ◌∷◌, length, None, Some, Ok, refl, sym, ap, ◌∙◌}
+use Rattle.std.specs.Borrow.{Bor}
 use Rattle.std.specs.Result.{result_ok}
 use Rattle.serde_json.specs.Data.{object}
 use Rattle.fp_base.specs.Tests.{first_failed}
@@ -28,15 +29,15 @@ unfolding rule_in
 with [] r h accepted = absurd (h refl)
 with (m ∷ ms) r h accepted = ap result_ok accepted
 
-module _ (t : Tree) (v : Vec Entry Global) (is : t ≡ Object v) where
-  seen : tree_view t ≡ object (tree_members v.items)
+module _ (t : Tree) (v : Bor (List Entry)) (is : t ≡ Object v) where
+  seen : tree_view t ≡ object (tree_members v.now)
   seen = ap tree_view is ∙ view-Object v
 
-  pub no_rule : length v.items ≡ 0 → None ≡ rule_in (Some (tree_view t))
-  no_rule h = sym (ap (λ d. rule_in (Some d)) seen ∙ without v.items h)
+  pub no_rule : length v.now ≡ 0 → None ≡ rule_in (Some (tree_view t))
+  no_rule h = sym (ap (λ d. rule_in (Some d)) seen ∙ without v.now h)
 
-  pub no_rule-met : length v.items ≡ 0 → first_failed (targeting_tests (Some (tree_view t))) ≡ None
-  no_rule-met h = ap (λ d. first_failed (targeting_tests (Some d))) seen ∙ without-met v.items h
+  pub no_rule-met : length v.now ≡ 0 → first_failed (targeting_tests (Some (tree_view t))) ≡ None
+  no_rule-met h = ap (λ d. first_failed (targeting_tests (Some d))) seen ∙ without-met v.now h
 
-  pub the_rule : (r : Rule) → (length v.items ≡ 0 → ⊥) → verdict (tree_view t) ≡ Ok r → Some r ≡ rule_in (Some (tree_view t))
-  the_rule r h accepted = sym (ap (λ d. rule_in (Some d)) seen ∙ with v.items r h (ap verdict (sym seen) ∙ accepted))
+  pub the_rule : (r : Rule) → (length v.now ≡ 0 → ⊥) → verdict (tree_view t) ≡ Ok r → Some r ≡ rule_in (Some (tree_view t))
+  the_rule r h accepted = sym (ap (λ d. rule_in (Some d)) seen ∙ with v.now r h (ap verdict (sym seen) ∙ accepted))

@@ -28,6 +28,7 @@ use crate::reading::{Reading, read_definition};
 use crate::rules::rule_beside;
 use crate::spelling::Spelled;
 use crate::text::{fitted, text_of};
+use bumpalo::Bump;
 use fp_base::{Tree, utf8_text};
 use fp_canonical::Unread;
 use fp_targeting::Rule;
@@ -83,7 +84,8 @@ impl Definition {
         // `Err`: the first fault that the value has, in the order of the tests, or `Memory`.
         ensures refused { IfErr result (IsFirst Tells (first_fault (view value))) }
     {
-        let tree = Tree::of_value(alloc, &value)?;
+        let arena = Bump::new(alloc);
+        let tree = Tree::of_value(&arena, &value)?;
         made(alloc, &tree)
     }
 
@@ -271,7 +273,8 @@ fn read_text(
     };
     let mut room = Vec::new(alloc);
     room.resize(text.len(), 0)?;
-    match read_definition(alloc, whole, room.as_mut_slice(), other) {
+    let arena = Bump::new(alloc);
+    match read_definition(alloc, &arena, whole, room.as_mut_slice(), other) {
         Ok(found) => read_through(alloc, text, found),
         Err(Unread::Memory) => Err(AllocError),
         Err(Unread::NotCanonical) => Ok(None),
@@ -284,12 +287,12 @@ fn read_through(
     text: &[u8],
     found: Reading<'_, '_>,
 ) -> Result<Option<Definition>, AllocError>
-    requires read { IsReadAs text.now (object_with found.noted.other found.members.items) }
-    requires told { IsTold found.noted.other found.members.items }
+    requires read { IsReadAs text.now (object_with found.noted.other found.members.now) }
+    requires told { IsTold found.noted.other found.members.now }
     requires short { length text.now ≤ LONGEST_DEFINITION }
     requires noted { AreNoted text.now (option_map (λ v. v.items) found.noted.variants)
         found.noted.places no_members
-        (members_with (targeting_in found.noted.other) found.members.items no_members) }
+        (members_with (targeting_in found.noted.other) found.members.now no_members) }
     ensures { IfOk result (λ o. o ≡ definition_in text.now) }
 {
     let Reading { members, noted } = found;

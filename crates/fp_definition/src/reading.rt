@@ -18,6 +18,8 @@ ghost use Rattle.fp_definition.specs.Spelled.{AreAt, AreIn, AreNoted};
 
 use crate::definition::{DEEPEST_DEFINITION, Definition};
 use crate::spelling::{Place, Places, Variant, is_first};
+use bumpalo::Bump;
+use bumpalo::collections::into_bump_slice;
 use fp_base::Tree;
 use fp_canonical::{Cursor, Unread, read_value};
 use fp_operators::Text;
@@ -32,7 +34,7 @@ const VARIANTS: usize = 2;
 // The members of a text, and what was noted of them.
 #[derive(Drop)]
 pub(crate) struct Reading<'a, 'o> {
-    pub(crate) members: Vec<(&'a str, Tree<'a>)>,
+    pub(crate) members: &'a [(&'a str, Tree<'a>)],
     pub(crate) noted: Noted<'o>,
 }
 
@@ -49,18 +51,19 @@ pub(crate) struct Noted<'o> {
 // that have escapes. A `targeting` that is spelled as the other's is passed over.
 pub(crate) fn read_definition<'a, 'o>(
     alloc: Global,
+    arena: &'a Bump,
     text: &'a str,
     room: &'a mut [u8],
     other: Option<&'o Definition>,
 ) -> Result<Reading<'a, 'o>, Unread>
     requires { length text.now ≤ length room.old }
     ensures read { IfOk result (λ r.
-        IsReadAs text.now (object_with r.noted.other r.members.items)) }
+        IsReadAs text.now (object_with r.noted.other r.members.now)) }
     ensures noted { IfOk result (λ r. AreNoted text.now
         (option_map (λ v. v.items) r.noted.variants) r.noted.places no_members
-        (members_with (targeting_in r.noted.other) r.members.items no_members)) }
+        (members_with (targeting_in r.noted.other) r.members.now no_members)) }
     ensures alone { other.entry ≡ None → IfOk result (λ r. r.noted.other ≡ None) }
-    ensures told { IfOk result (λ r. IsTold r.noted.other r.members.items) }
+    ensures told { IfOk result (λ r. IsTold r.noted.other r.members.now) }
     // It is read wherever the text is the canonical one of an object, if there is memory and no
     // other.
     ensures taken { (ms : Members) → other.entry ≡ None
@@ -70,7 +73,7 @@ pub(crate) fn read_definition<'a, 'o>(
     if !cursor.take(b'{') {
         return Err(Unread::NotCanonical);
     }
-    let (members, noted) = read_members(alloc, &mut cursor, text.len(), other)?;
+    let (members, noted) = read_members(alloc, arena, &mut cursor, text.len(), other)?;
     if cursor.left() > 0 {
         return Err(Unread::NotCanonical);
     }
@@ -80,41 +83,43 @@ pub(crate) fn read_definition<'a, 'o>(
 // The members of a definition, whose whole text is so long.
 fn read_members<'a, 'o>(
     alloc: Global,
+    arena: &'a Bump,
     cursor: &mut Cursor<'a>,
     len: usize,
     other: Option<&'o Definition>,
-) -> Result<(Vec<(&'a str, Tree<'a>)>, Noted<'o>), Unread>
+) -> Result<(&'a [(&'a str, Tree<'a>)], Noted<'o>), Unread>
     requires { length cursor.old ≤ len }
     ensures read { IfOk result (λ p. ReadsMembers (DEEPEST_DEFINITION - 1) false
-        (members_with (targeting_in p.1.other) p.0.items no_members) cursor.old cursor.new) }
-    ensures sorted { IfOk result (λ p. IsSorted (tree_members p.0.items)) }
+        (members_with (targeting_in p.1.other) p.0.now no_members) cursor.old cursor.new) }
+    ensures sorted { IfOk result (λ p. IsSorted (tree_members p.0.now)) }
     ensures noted { IfOk result (λ p. (passed : List ℕ) → len ≡ length (passed ++ cursor.old)
         → AreNoted (passed ++ members_text false
-        (members_with (targeting_in p.1.other) p.0.items no_members))
+        (members_with (targeting_in p.1.other) p.0.now no_members))
         (option_map (λ v. v.items) p.1.variants) p.1.places no_members
-        (members_with (targeting_in p.1.other) p.0.items no_members)) }
+        (members_with (targeting_in p.1.other) p.0.now no_members)) }
     ensures alone { other.entry ≡ None → IfOk result (λ p. p.1.other ≡ None) }
-    ensures told { IfOk result (λ p. IsTold p.1.other p.0.items) }
+    ensures told { IfOk result (λ p. IsTold p.1.other p.0.now) }
     ensures taken { (ms : Members) (left : List ℕ) → other.entry ≡ None
         → ReadsMembers (DEEPEST_DEFINITION - 1) false ms cursor.old left → IsSorted ms
         → MatchResult result (λ _. cursor.new ≡ left) (λ e. e ≡ Memory) }
 {
-    let mut found: Vec<(&'a str, Tree<'a>)> = Vec::with_capacity(alloc, MEMBERS)?;
+    let mut found: Vec<(&'a str, Tree<'a>), &'a Bump> = Vec::with_capacity(arena, MEMBERS)?;
     let mut noted = Noted {
         variants: None,
         places: Places::none(),
         other: None,
     };
     'members: while let Some(name) = cursor.next_name(found.as_slice())? {
-        let value = read_member(alloc, cursor, len, name, other, &mut noted)?;
+        let value = read_member(alloc, arena, cursor, len, name, other, &mut noted)?;
         found.push((name, value))?;
     }
-    Ok((found, noted))
+    Ok((into_bump_slice(found), noted))
 }
 
 // The value of a member. The first of each name is noted.
 fn read_member<'a, 'o>(
     alloc: Global,
+    arena: &'a Bump,
     cursor: &mut Cursor<'a>,
     len: usize,
     name: &str,
@@ -140,12 +145,12 @@ fn read_member<'a, 'o>(
         → MatchResult result (λ _. cursor.new ≡ left) (λ e. e ≡ Memory) }
 {
     if is_first(name, "variants", noted.variants.is_none()) {
-        let (value, variants) = read_variants(alloc, cursor, len)?;
+        let (value, variants) = read_variants(alloc, arena, cursor, len)?;
         noted.variants = Some(variants);
         return Ok(value);
     }
     let start = len - cursor.left();
-    let value = read_or_pass(alloc, cursor, name, other, &mut noted.other)?;
+    let value = read_or_pass(arena, cursor, name, other, &mut noted.other)?;
     let end = len - cursor.left();
     noted.places.note(name, Place { start, end });
     Ok(value)
@@ -153,7 +158,7 @@ fn read_member<'a, 'o>(
 
 // The value of a member, or null where it is the other's `targeting`, which is then told.
 fn read_or_pass<'a, 'o>(
-    alloc: Global,
+    arena: &'a Bump,
     cursor: &mut Cursor<'a>,
     name: &str,
     other: Option<&'o Definition>,
@@ -173,7 +178,7 @@ fn read_or_pass<'a, 'o>(
         *told = other;
         return Ok(Tree::Null);
     }
-    read_value(alloc, cursor, DEEPEST_DEFINITION - 1)
+    read_value(arena, cursor, DEEPEST_DEFINITION - 1)
 }
 
 // Goes past the `targeting` of another definition, if it comes next.
@@ -196,6 +201,7 @@ fn passes_targeting(cursor: &mut Cursor<'_>, other: Option<&Definition>) -> bool
 // The value of `variants`, and the variants if it is an object.
 fn read_variants<'a>(
     alloc: Global,
+    arena: &'a Bump,
     cursor: &mut Cursor<'a>,
     len: usize,
 ) -> Result<(Tree<'a>, Vec<Variant>), Unread>
@@ -210,42 +216,43 @@ fn read_variants<'a>(
         → MatchResult result (λ _. cursor.new ≡ left) (λ e. e ≡ Memory) }
 {
     if cursor.take(b'{') {
-        let (members, variants) = read_noting(alloc, cursor, len)?;
+        let (members, variants) = read_noting(alloc, arena, cursor, len)?;
         return Ok((Tree::Object(members), variants));
     }
-    let value = read_value(alloc, cursor, DEEPEST_DEFINITION - 1)?;
+    let value = read_value(arena, cursor, DEEPEST_DEFINITION - 1)?;
     Ok((value, Vec::new(alloc)))
 }
 
 // The members of an object, and where their values stand.
 fn read_noting<'a>(
     alloc: Global,
+    arena: &'a Bump,
     cursor: &mut Cursor<'a>,
     len: usize,
-) -> Result<(Vec<(&'a str, Tree<'a>)>, Vec<Variant>), Unread>
+) -> Result<(&'a [(&'a str, Tree<'a>)], Vec<Variant>), Unread>
     requires { length cursor.old ≤ len }
     ensures read { IfOk result (λ p.
-        ReadsMembers (DEEPEST_DEFINITION - 2) false (tree_members p.0.items) cursor.old
+        ReadsMembers (DEEPEST_DEFINITION - 2) false (tree_members p.0.now) cursor.old
         cursor.new) }
-    ensures sorted { IfOk result (λ p. IsSorted (tree_members p.0.items)) }
+    ensures sorted { IfOk result (λ p. IsSorted (tree_members p.0.now)) }
     ensures shorter { OnOk result (length cursor.new < length cursor.old) }
     ensures noted { IfOk result (λ p. (passed : List ℕ) → len ≡ length (passed ++ cursor.old)
-        → AreAt (passed ++ members_text false (tree_members p.0.items)) p.1.items
-        (tree_members p.0.items)) }
+        → AreAt (passed ++ members_text false (tree_members p.0.now)) p.1.items
+        (tree_members p.0.now)) }
     ensures taken { (ms : Members) (left : List ℕ)
         → ReadsMembers (DEEPEST_DEFINITION - 2) false ms cursor.old left → IsSorted ms
         → MatchResult result (λ _. cursor.new ≡ left) (λ e. e ≡ Memory) }
 {
-    let mut found: Vec<(&'a str, Tree<'a>)> = Vec::new(alloc);
+    let mut found: Vec<(&'a str, Tree<'a>), &'a Bump> = Vec::new(arena);
     let mut variants = Vec::with_capacity(alloc, VARIANTS)?;
     'members: while let Some(name) = cursor.next_name(found.as_slice())? {
         let start = len - cursor.left();
-        let value = read_value(alloc, cursor, DEEPEST_DEFINITION - 2)?;
+        let value = read_value(arena, cursor, DEEPEST_DEFINITION - 2)?;
         let end = len - cursor.left();
         found.push((name, value))?;
         let name = Text::from_str(alloc, name)?;
         let value = Place { start, end };
         variants.push(Variant { name, value })?;
     }
-    Ok((found, variants))
+    Ok((into_bump_slice(found), variants))
 }

@@ -1,10 +1,10 @@
 -- What a line says, by what was found of it.
 use Rattle.std.proofs.Common.{◌≡◌, ℕ, suc, ◌+◌, ◌<◌, ◌≤◌, true, false, List, [], ◌∷◌, ◌++◌, length, map, drop, get_or}
-use Rattle.std.proofs.Common.{Option, Some, None, IsSomeAnd, Result, Ok, Err, Vec, refl, ap, sym, subst, ◌∙◌}
+use Rattle.std.proofs.Common.{Option, Some, None, IsSomeAnd, Result, Ok, Err, refl, ap, sym, subst, ◌∙◌}
 use Rattle.std.proofs.Common.{append_assoc, add-one}
 use Rattle.std.proofs.Math.ListN.{drop_of_length-le}
 use Rattle.std.proofs.lemmas.List.{drop_more, append-nil, map-append}
-use Rattle.std.specs.declared.alloc.Global.{Global}
+use Rattle.std.specs.Borrow.{Bor}
 use Rattle.serde_json.specs.Data.{Data, array, object, Members, item}
 use Rattle.serde_json.specs.Events.{items_len}
 use Rattle.fp_base.specs.Ordered.{IsOrdered, AreOrdered}
@@ -29,9 +29,8 @@ use Rattle.fp_edit.specs.declared.line.LineFault.TheVariants.{BadIf, BadFlag, Ba
 -- ---- objects
 
 -- an object is seen as its members
-pub seen_members : (t : Tree) (v : Vec Entry Global) (ms : List Entry) → t ≡ Object v → ms ≡ v.items →
-    tree_view t ≡ object (tree_members ms)
-seen_members t v ms is same = ap tree_view is ∙ view-Object v ∙ ap (λ es. object (tree_members es)) (sym same)
+pub seen_members : (t : Tree) (v : Bor (List Entry)) → t ≡ Object v → tree_view t ≡ object (tree_members v.now)
+seen_members t v is = ap tree_view is ∙ view-Object v
 
 -- one of known members alone is the part that they make
 pub part_known : (d : Data) (ms : Members) → d ≡ object ms → says.all_known ms ≡ true → says.part_in d ≡ says.part_of d

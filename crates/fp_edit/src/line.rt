@@ -16,6 +16,7 @@ ghost use Rattle.fp_edit.specs.declared.line.LineFault.TheVariants.{BadSet, Memo
 use crate::changes::{Changes, is_count};
 use crate::edit::{Change, Edit};
 use crate::one_flag::change_in;
+use bumpalo::Bump;
 use fp_base::{Tree, read_tree};
 use fp_definition::{DefFault, LONGEST_KEY};
 use json::Scratch;
@@ -127,7 +128,8 @@ pub fn parse_line_with(alloc: Global, line: &[u8], scratch: &mut Scratch) -> Res
     if line.len() > LONGEST_LINE {
         return Err(LineFault::TooLong);
     }
-    match read_tree(alloc, line, scratch)? {
+    let arena = Bump::new(alloc);
+    match read_tree(alloc, &arena, line, scratch)? {
         Some(tree) => edit_in(alloc, &tree),
         None => Err(LineFault::NotJson),
     }

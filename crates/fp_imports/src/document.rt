@@ -10,7 +10,7 @@ ghost use Rattle.fp_base.specs.Answer.{Gives};
 ghost use Rattle.fp_base.specs.Ordered.{IsOrdered};
 ghost use Rattle.fp_base.specs.TreeView.{tree_view, tree_members};
 ghost use Rattle.fp_definition.specs.Key.{flag_cmp, key_bytes};
-ghost use Rattle.fp_imports.specs.Document.{document as document_of, flags_in};
+ghost use Rattle.fp_imports.specs.Document.{document as document_of};
 ghost use Rattle.fp_imports.specs.Document.{flags_of as every_flag, flag_of as one_flag};
 ghost use Rattle.fp_imports.specs.Document.{flag_if_valid, flag_expansion};
 ghost use Rattle.fp_imports.specs.Faults.{Tells, TellsBroken, seen_flag};
@@ -18,11 +18,12 @@ ghost use Rattle.fp_imports.specs.Places.{IsPlaceOf};
 
 use crate::faults::{ImportFault, ReferenceFault};
 use crate::references::{expand, stands};
+use bumpalo::Bump;
+use bumpalo::collections::into_bump_slice;
 use fp_base::{Tree, member_in_order};
 use fp_definition::{DefFault, Definition, FlagKey, KeyFault};
 use serde_json::Value;
 use std::alloc::Global;
-use std::mem;
 
 /// The flags of a flagd document, by ascending keys, with the references in their targeting
 /// replaced. What the document has beside `flags` and `$evaluators` is dropped.
@@ -39,68 +40,55 @@ pub fn expand_document(
     // `Ok`: the keys ascend strictly.
     ensures ascending { IfOk result (λ v. IsStrictlySortedBy flag_cmp (keys_of v.items)) }
 {
-    expand_tree(alloc, Tree::of_value(alloc, &document)?)
+    let arena = Bump::new(alloc);
+    let tree = Tree::of_value(&arena, &document)?;
+    expand_tree(alloc, &arena, &tree)
 }
 
-/// The flags of a flagd document that was read as a tree, as `expand_document` gives them. Texts
-/// are never copied until a definition owns its own.
-pub fn expand_tree(
+/// The flags of a flagd document that was read into the arena as a tree, as `expand_document` gives
+/// them. Texts are never copied until a definition owns its own.
+pub fn expand_tree<'a>(
     alloc: Global,
-    document: Tree<'_>,
+    arena: &'a Bump,
+    document: &Tree<'a>,
 ) -> Result<Vec<(FlagKey, Definition)>, ImportFault>
     // The tree is ordered, as one is that `read_tree` of `fp_base` made.
-    requires { IsOrdered (tree_view document) }
+    requires { IsOrdered (tree_view document.now) }
     // `Ok`: exactly the keys and canonical texts of the flags that the document defines; a fault:
     // the first one that it has, or `Memory`, which is never told as a flag's.
     ensures flags { Gives (λ v. map seen_flag v.items) Tells result
-        (document_of (tree_view document.entry)) }
+        (document_of (tree_view document.now)) }
     // `Ok`: the keys ascend strictly.
     ensures ascending { IfOk result (λ v. IsStrictlySortedBy flag_cmp (keys_of v.items)) }
 {
-    let Tree::Object(mut members) = document else {
+    let Tree::Object(members) = document else {
         return Err(ImportFault::NotDocument);
     };
-    let Some(flags) = take_flags(&mut members) else {
+    let Some(Tree::Object(flags)) = member_in_order(members, "flags") else {
         return Err(ImportFault::NotDocument);
     };
-    match member_in_order(&members, "$evaluators") {
-        None => flags_taken(alloc, &[], flags),
-        Some(Tree::Object(evaluators)) => flags_taken(alloc, evaluators, flags),
+    match member_in_order(members, "$evaluators") {
+        None => flags_of(alloc, arena, &[], flags),
+        Some(Tree::Object(evaluators)) => flags_of(alloc, arena, evaluators, flags),
         Some(_) => Err(ImportFault::NotDocument),
     }
 }
 
-// The members of `flags`, if it is an object. Another value stands in its place then.
-fn take_flags<'a>(members: &mut Vec<(&'a str, Tree<'a>)>) -> Option<Vec<(&'a str, Tree<'a>)>>
-    requires { IsOrdered (object (tree_members members.now.items)) }
-    ensures flags { option_map (λ v. tree_members v.items) result
-        ≡ flags_in (get_member (codes "flags") (tree_members members.old.items)) }
-    ensures ordered { IfSome result (λ v. IsOrdered (object (tree_members v.items))) }
-    ensures kept { IsOrdered (object (tree_members members.new.items)) }
-    ensures others { get_member (codes "$evaluators") (tree_members members.new.items)
-        ≡ get_member (codes "$evaluators") (tree_members members.old.items) }
-{
-    let at = place_of(members, "flags")?;
-    match mem::replace(&mut members[at].1, Tree::Null) {
-        Tree::Object(flags) => Some(flags),
-        _ => None,
-    }
-}
-
-fn flags_taken<'a>(
+fn flags_of<'a>(
     alloc: Global,
+    arena: &'a Bump,
     evaluators: &[(&'a str, Tree<'a>)],
-    flags: Vec<(&'a str, Tree<'a>)>,
+    flags: &[(&'a str, Tree<'a>)],
 ) -> Result<Vec<(FlagKey, Definition)>, ImportFault>
     requires evaluators { IsOrdered (object (tree_members evaluators.now)) }
-    requires flags { IsOrdered (object (tree_members flags.items)) }
+    requires flags { IsOrdered (object (tree_members flags.now)) }
     ensures flags { Gives (λ v. map seen_flag v.items) Tells result
-        (every_flag (tree_members evaluators.now) (tree_members flags.entry.items)) }
+        (every_flag (tree_members evaluators.now) (tree_members flags.now)) }
     ensures ascending { IfOk result (λ v. IsStrictlySortedBy flag_cmp (keys_of v.items)) }
 {
     let mut found = Vec::with_capacity(alloc, flags.len())?;
-    for (name, flag) in flags {
-        match flag_named(alloc, evaluators, name, flag) {
+    for flag in flags {
+        match flag_named(alloc, arena, evaluators, flag.0, &flag.1) {
             Ok(made) => found.push(made)?,
             Err(fault) => return Err(fault),
         }
@@ -110,21 +98,22 @@ fn flags_taken<'a>(
 
 fn flag_named<'a>(
     alloc: Global,
+    arena: &'a Bump,
     evaluators: &[(&'a str, Tree<'a>)],
     name: &str,
-    flag: Tree<'a>,
+    flag: &Tree<'a>,
 ) -> Result<(FlagKey, Definition), ImportFault>
     requires evaluators { IsOrdered (object (tree_members evaluators.now)) }
-    requires flag { IsOrdered (tree_view flag) }
+    requires flag { IsOrdered (tree_view flag.now) }
     ensures { Gives seen_flag Tells result
-        (one_flag (tree_members evaluators.now) name.now (tree_view flag.entry)) }
+        (one_flag (tree_members evaluators.now) name.now (tree_view flag.now)) }
 {
     let key = match FlagKey::new(alloc, name) {
         Ok(key) => key,
         Err(KeyFault::BadKey) => return Err(ImportFault::BadKey(String::from_str(alloc, name)?)),
         Err(KeyFault::Memory) => return Err(ImportFault::Memory),
     };
-    match expand_flag(alloc, evaluators, flag) {
+    match expand_flag(alloc, arena, evaluators, flag) {
         Ok(flag) => flag_defined(alloc, key, &flag),
         Err(ReferenceFault::Unknown(name)) => Err(ImportFault::RefUnknown(name)),
         Err(ReferenceFault::TooDeep) => Err(ImportFault::RefTooDeep),
@@ -152,29 +141,30 @@ fn flag_defined(
 // A flag with the references in its targeting replaced. All else stays where it is.
 fn expand_flag<'a>(
     alloc: Global,
+    arena: &'a Bump,
     evaluators: &[(&'a str, Tree<'a>)],
-    flag: Tree<'a>,
+    flag: &Tree<'a>,
 ) -> Result<Tree<'a>, ReferenceFault>
     requires evaluators { IsOrdered (object (tree_members evaluators.now)) }
-    requires flag { IsOrdered (tree_view flag) }
+    requires flag { IsOrdered (tree_view flag.now) }
     ensures made { Gives tree_view TellsBroken result
-        (flag_expansion (tree_members evaluators.now) (tree_view flag.entry)) }
+        (flag_expansion (tree_members evaluators.now) (tree_view flag.now)) }
     ensures ordered { IfOk result (λ t. IsOrdered (tree_view t)) }
 {
-    let mut members = match flag {
-        Tree::Object(members) => members,
-        other => return Ok(other),
+    let Tree::Object(members) = flag else {
+        return Ok(*flag);
     };
-    let Some(at) = place_of(&members, "targeting") else {
-        return Ok(Tree::Object(members));
+    let Some(at) = place_of(members, "targeting") else {
+        return Ok(*flag);
     };
     if stands(&members[at].1) {
-        return Ok(Tree::Object(members));
+        return Ok(*flag);
     }
-    match expand(alloc, evaluators, &members[at].1) {
+    match expand(alloc, arena, evaluators, &members[at].1) {
         Ok((targeting, _)) => {
-            members[at].1 = targeting;
-            Ok(Tree::Object(members))
+            let mut expanded = Vec::from_slice(arena, members)?;
+            expanded[at].1 = targeting;
+            Ok(Tree::Object(into_bump_slice(expanded)))
         }
         Err(fault) => Err(fault),
     }

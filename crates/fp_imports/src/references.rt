@@ -15,6 +15,8 @@ ghost use Rattle.fp_imports.specs.Refers.{refers, items_refer, members_refer};
 ghost use Rattle.fp_imports.specs.Faults.{TellsBroken, with_rest};
 
 use crate::faults::ReferenceFault;
+use bumpalo::Bump;
+use bumpalo::collections::into_bump_slice;
 use fp_base::{Tree, member_in_order};
 use std::alloc::Global;
 
@@ -27,6 +29,7 @@ pub const MOST_EXPANDED_VALUES: usize = 16_384;
 // A targeting with its references replaced, and how many more values it might have had.
 pub(crate) fn expand<'a>(
     alloc: Global,
+    arena: &'a Bump,
     evaluators: &[(&'a str, Tree<'a>)],
     targeting: &Tree<'a>,
 ) -> Result<(Tree<'a>, usize), ReferenceFault>
@@ -38,6 +41,7 @@ pub(crate) fn expand<'a>(
 {
     expand_value(
         alloc,
+        arena,
         evaluators,
         targeting,
         MOST_REPLACEMENTS,
@@ -49,6 +53,7 @@ pub(crate) fn expand<'a>(
 #[cycle(expands)]
 fn expand_value<'a>(
     alloc: Global,
+    arena: &'a Bump,
     evaluators: &[(&'a str, Tree<'a>)],
     value: &Tree<'a>,
     more: u32,
@@ -60,12 +65,12 @@ fn expand_value<'a>(
 {
     match value {
         Tree::Object(members) => match reference(members) {
-            Some(name) => expand_reference(alloc, evaluators, name, more, left),
+            Some(name) => expand_reference(alloc, arena, evaluators, name, more, left),
             None => {
                 if left == 0 {
                     return Err(ReferenceFault::TooLarge);
                 }
-                match expand_members(alloc, evaluators, members, more, left - 1) {
+                match expand_members(alloc, arena, evaluators, members, more, left - 1) {
                     Ok((found, rest)) => Ok((Tree::Object(found), rest)),
                     Err(fault) => Err(fault),
                 }
@@ -75,15 +80,14 @@ fn expand_value<'a>(
             if left == 0 {
                 return Err(ReferenceFault::TooLarge);
             }
-            match expand_items(alloc, evaluators, items, more, left - 1) {
+            match expand_items(alloc, arena, evaluators, items, more, left - 1) {
                 Ok((found, rest)) => Ok((Tree::Array(found), rest)),
                 Err(fault) => Err(fault),
             }
         }
-        Tree::Null => counted_alone(Tree::Null, left),
-        Tree::Bool(truth) => counted_alone(Tree::Bool(*truth), left),
-        Tree::Number(number) => counted_alone(Tree::Number(*number), left),
-        Tree::String(text) => counted_alone(Tree::String(*text), left),
+        Tree::Null | Tree::Bool(_) | Tree::Number(_) | Tree::String(_) => {
+            counted_alone(*value, left)
+        }
     }
 }
 
@@ -91,6 +95,7 @@ fn expand_value<'a>(
 #[cycle(expands)]
 fn expand_reference<'a>(
     alloc: Global,
+    arena: &'a Bump,
     evaluators: &[(&'a str, Tree<'a>)],
     name: &str,
     more: u32,
@@ -104,7 +109,7 @@ fn expand_reference<'a>(
         return Err(ReferenceFault::TooDeep);
     }
     match member_in_order(evaluators, name) {
-        Some(evaluator) => expand_value(alloc, evaluators, evaluator, more - 1, left),
+        Some(evaluator) => expand_value(alloc, arena, evaluators, evaluator, more - 1, left),
         None => Err(ReferenceFault::Unknown(String::from_str(alloc, name)?)),
     }
 }
@@ -112,55 +117,57 @@ fn expand_reference<'a>(
 #[cycle(expands)]
 fn expand_items<'a>(
     alloc: Global,
+    arena: &'a Bump,
     evaluators: &[(&'a str, Tree<'a>)],
-    items: &Vec<Tree<'a>>,
+    items: &[Tree<'a>],
     more: u32,
     left: usize,
-) -> Result<(Vec<Tree<'a>>, usize), ReferenceFault>
+) -> Result<(&'a [Tree<'a>], usize), ReferenceFault>
     requires { IsSorted (tree_members evaluators.now) }
-    ensures { Gives (with_rest (λ v. map tree_view v.items)) TellsBroken result
+    ensures { Gives (with_rest (λ v. map tree_view v.now)) TellsBroken result
         (items_expansion (replacement (tree_members evaluators.now) more)
-        (tree_items items.now.items) left) }
+        (tree_items items.now) left) }
 {
-    let mut found = Vec::with_capacity(alloc, items.len())?;
+    let mut found = Vec::with_capacity(arena, items.len())?;
     let mut unused = left;
     for item in items {
-        match expand_value(alloc, evaluators, item, more, unused) {
+        match expand_value(alloc, arena, evaluators, item, more, unused) {
             Ok((made, rest)) => {
-                found.push(made)?;
+                found.push_reserved(made);
                 unused = rest;
             }
             Err(fault) => return Err(fault),
         }
     }
-    Ok((found, unused))
+    Ok((into_bump_slice(found), unused))
 }
 
 #[cycle(expands)]
 fn expand_members<'a>(
     alloc: Global,
+    arena: &'a Bump,
     evaluators: &[(&'a str, Tree<'a>)],
-    members: &Vec<(&'a str, Tree<'a>)>,
+    members: &[(&'a str, Tree<'a>)],
     more: u32,
     left: usize,
-) -> Result<(Vec<(&'a str, Tree<'a>)>, usize), ReferenceFault>
+) -> Result<(&'a [(&'a str, Tree<'a>)], usize), ReferenceFault>
     requires { IsSorted (tree_members evaluators.now) }
-    ensures { Gives (with_rest (λ v. tree_members v.items)) TellsBroken result
+    ensures { Gives (with_rest (λ v. tree_members v.now)) TellsBroken result
         (members_expansion (replacement (tree_members evaluators.now) more)
-        (tree_members members.now.items) left) }
+        (tree_members members.now) left) }
 {
-    let mut found = Vec::with_capacity(alloc, members.len())?;
+    let mut found = Vec::with_capacity(arena, members.len())?;
     let mut unused = left;
     for member in members {
-        match expand_value(alloc, evaluators, &member.1, more, unused) {
+        match expand_value(alloc, arena, evaluators, &member.1, more, unused) {
             Ok((made, rest)) => {
-                found.push((member.0, made))?;
+                found.push_reserved((member.0, made));
                 unused = rest;
             }
             Err(fault) => return Err(fault),
         }
     }
-    Ok((found, unused))
+    Ok((into_bump_slice(found), unused))
 }
 
 // Whether a targeting has no references to replace, and few enough values. It is its own expansion
@@ -191,9 +198,9 @@ fn uncounted(tree: &Tree<'_>, left: usize) -> Option<usize>
 }
 
 #[cycle(stands)]
-fn uncounted_items(items: &Vec<Tree<'_>>, left: usize) -> Option<usize>
-    ensures { IfSome result (λ rest. (items_refer (tree_items items.now.items) ≡ false)
-        × (left ≡ items_count (tree_items items.now.items) + rest)) }
+fn uncounted_items(items: &[Tree<'_>], left: usize) -> Option<usize>
+    ensures { IfSome result (λ rest. (items_refer (tree_items items.now) ≡ false)
+        × (left ≡ items_count (tree_items items.now) + rest)) }
 {
     let mut unused = left;
     for item in items {
@@ -203,9 +210,9 @@ fn uncounted_items(items: &Vec<Tree<'_>>, left: usize) -> Option<usize>
 }
 
 #[cycle(stands)]
-fn uncounted_members(members: &Vec<(&str, Tree<'_>)>, left: usize) -> Option<usize>
-    ensures { IfSome result (λ rest. (members_refer (tree_members members.now.items) ≡ false)
-        × (left ≡ members_count (tree_members members.now.items) + rest)) }
+fn uncounted_members(members: &[(&str, Tree<'_>)], left: usize) -> Option<usize>
+    ensures { IfSome result (λ rest. (members_refer (tree_members members.now) ≡ false)
+        × (left ≡ members_count (tree_members members.now) + rest)) }
 {
     let mut unused = left;
     for member in members {

@@ -24,6 +24,7 @@ use crate::failure::Failure;
 use crate::reply::{Headers, Reply, failed};
 use crate::tag::{entity_tag, is_known};
 use crate::write::{put_failure, put_success};
+use bumpalo::Bump;
 use fp_base::Tree;
 use fp_definition::{Definition, EvalFault, FlagKey};
 use fp_edit::FlagSet;
@@ -50,7 +51,8 @@ pub(crate) fn evaluate_bulk(
     ensures { IfOk result (λ r. response_seen r
         ≡ bulk_reply set.now (option_copied if_none_match.entry) body.now now) }
 {
-    match read_context(alloc, body, scratch)? {
+    let arena = Bump::new(alloc);
+    match read_context(alloc, &arena, body, scratch)? {
         Ok(context) => {
             let text = bulk_text(alloc, set, &context, now)?;
             tagged_reply(alloc, set.revision(), if_none_match, text)
@@ -79,7 +81,8 @@ pub(crate) fn reply_with_tag(
     if is_known(tag, if_none_match) {
         return Ok(not_modified(alloc, set.revision(), kept));
     }
-    match read_context(alloc, body, scratch)? {
+    let arena = Bump::new(alloc);
+    match read_context(alloc, &arena, body, scratch)? {
         Ok(context) => {
             let text = bulk_text(alloc, set, &context, now)?;
             Ok(all_flags(set.revision(), kept, text))

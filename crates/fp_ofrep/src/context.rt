@@ -1,16 +1,17 @@
 //! The evaluation context in a request's body.
 
-ghost use Rattle.std.specs.Prelude.{◌≡◌, true, Some, IfOk, IsSome, is_some, codes, option_map};
-ghost use Rattle.serde_json.specs.Find.{as_object, get, get_member};
+ghost use Rattle.std.specs.Prelude.{◌≡◌, true, Some, IfOk, IsSome, is_some, codes};
+ghost use Rattle.serde_json.specs.Find.{as_object, get};
 ghost use Rattle.fp_base.specs.Ordered.{IsOrdered};
 ghost use Rattle.fp_base.specs.Tests.{first_failed};
-ghost use Rattle.fp_base.specs.TreeView.{tree_view, tree_members};
+ghost use Rattle.fp_base.specs.TreeView.{tree_view};
 ghost use Rattle.fp_base.specs.Whole.{is_whole};
 ghost use Rattle.fp_ofrep.specs.Context.{context_of, context_of_data, context_tests, no_context};
 ghost use Rattle.fp_ofrep.specs.Context.{text_or_none, unless};
 ghost use Rattle.fp_ofrep.specs.Seen.{result_map};
 
 use crate::failure::Failure;
+use bumpalo::Bump;
 use fp_base::{Tree, read_tree};
 use json::Scratch;
 use std::alloc::{AllocError, Global};
@@ -18,6 +19,7 @@ use std::alloc::{AllocError, Global};
 /// The context in a body, or its first fault. It lends the body's texts.
 pub(crate) fn read_context<'a>(
     alloc: Global,
+    arena: &'a Bump,
     body: &'a [u8],
     scratch: &'a mut Scratch,
 ) -> Result<Result<Tree<'a>, Failure>, AllocError>
@@ -27,48 +29,35 @@ pub(crate) fn read_context<'a>(
     ensures ordered { IfOk result (λ r. IfOk r (λ t. IsOrdered (tree_view t))) }
 {
     if body.is_empty() {
-        return Ok(Ok(empty(alloc)));
+        return Ok(Ok(empty()));
     }
-    match read_tree(alloc, body, scratch)? {
-        Some(tree) => Ok(context_of_tree(alloc, tree)),
+    match read_tree(alloc, arena, body, scratch)? {
+        Some(tree) => Ok(context_of_tree(&tree)),
         None => Ok(Err(Failure::NotJson)),
     }
 }
 
-fn empty<'a>(alloc: Global) -> Tree<'a>
+fn empty<'a>() -> Tree<'a>
     ensures { tree_view result ≡ no_context }
 {
-    Tree::Object(Vec::new(alloc))
+    Tree::Object(&[])
 }
 
-fn context_of_tree<'a>(alloc: Global, body: Tree<'a>) -> Result<Tree<'a>, Failure>
-    requires { IsOrdered (tree_view body) }
+fn context_of_tree<'a>(body: &Tree<'a>) -> Result<Tree<'a>, Failure>
+    requires { IsOrdered (tree_view body.now) }
     ensures context { result_map tree_view result
-        ≡ context_of_data (Some (tree_view body.entry)) }
+        ≡ context_of_data (Some (tree_view body.now)) }
     ensures object { IfOk result (λ t. IsSome (as_object (tree_view t))) }
     ensures whole { IfOk result (λ t. is_whole (tree_view t) ≡ true) }
     ensures ordered { IfOk result (λ t. IsOrdered (tree_view t)) }
 {
-    let Tree::Object(members) = body else {
+    let Tree::Object(_) = body else {
         return Err(Failure::NotObject);
     };
-    match member_of(members, "context") {
-        None | Some(Tree::Null) => Ok(empty(alloc)),
-        Some(context) => tested(context),
+    match body.get("context") {
+        None | Some(Tree::Null) => Ok(empty()),
+        Some(context) => tested(*context),
     }
-}
-
-// The member of that name, by value; the rest is dropped.
-fn member_of<'a>(members: Vec<(&'a str, Tree<'a>)>, name: &str) -> Option<Tree<'a>>
-    ensures { option_map tree_view result
-        ≡ get_member name.now (tree_members members.entry.items) }
-{
-    for (own_name, member) in members {
-        if own_name == name {
-            return Some(member);
-        }
-    }
-    None
 }
 
 fn tested<'a>(context: Tree<'a>) -> Result<Tree<'a>, Failure>

@@ -22,6 +22,7 @@ use crate::context::read_context;
 use crate::failure::Failure;
 use crate::reply::{Headers, Reply, USUAL_ROOM, failed};
 use crate::write::put_success;
+use bumpalo::Bump;
 use fp_base::Tree;
 use fp_definition::{Definition, EvalFault, FlagKey, KeyFault, Resolved};
 use fp_edit::{Flag, FlagSet};
@@ -84,7 +85,8 @@ fn body_failure(alloc: Global, body: &[u8], scratch: &mut Scratch) -> Result<Fai
     ensures { IfOk result (λ f. (shown : List ℕ) (now : ℕ)
         → after_body shown None (context_of body.now) now ≡ Err f) }
 {
-    match read_context(alloc, body, scratch)? {
+    let arena = Bump::new(alloc);
+    match read_context(alloc, &arena, body, scratch)? {
         Ok(_) => Ok(Failure::NotFound),
         Err(failure) => Ok(failure),
     }
@@ -102,7 +104,8 @@ pub(crate) fn evaluate_key(
     requires { now < 2 ^ 63 }
     ensures { IfOk result (λ r. response_seen r ≡ reply_with_key set.now text.now body.now now) }
 {
-    match read_context(alloc, body, scratch)? {
+    let arena = Bump::new(alloc);
+    match read_context(alloc, &arena, body, scratch)? {
         Ok(context) => found_reply(alloc, set, text, &context, now),
         Err(failure) => failed(alloc, failure, Some(text)),
     }

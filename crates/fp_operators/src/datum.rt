@@ -10,6 +10,7 @@ ghost use Rattle.fp_operators.specs.FromJson.{data_of, items_from, members_from}
 ghost use Rattle.fp_operators.specs.Memory.{takes_memory};
 
 use crate::kept_text::Text;
+use bumpalo::Bump;
 use fp_base::Tree;
 use serde_json::Value;
 use std::alloc::{AllocError, Global};
@@ -38,7 +39,8 @@ impl Datum {
     pub fn from_value(alloc: Global, value: &Value) -> Result<Datum, AllocError>
         ensures { IfOk result (λ d. view d ≡ data_of (json_view value.now)) }
     {
-        let tree = Tree::of_value(alloc, value)?;
+        let arena = Bump::new(alloc);
+        let tree = Tree::of_value(&arena, value)?;
         Datum::from_tree(alloc, &tree)
     }
 
@@ -86,9 +88,9 @@ impl Datum {
 }
 
 #[cycle(from_tree)]
-fn from_items(alloc: Global, items: &Vec<Tree<'_>>) -> Result<Vec<Datum>, AllocError>
-    requires { AreOrdered (tree_items items.now.items) }
-    ensures { IfOk result (λ v. items_view v.items ≡ items_from (tree_items items.now.items)) }
+fn from_items(alloc: Global, items: &[Tree<'_>]) -> Result<Vec<Datum>, AllocError>
+    requires { AreOrdered (tree_items items.now) }
+    ensures { IfOk result (λ v. items_view v.items ≡ items_from (tree_items items.now)) }
 {
     let mut found = Vec::with_capacity(alloc, items.len())?;
     for item in items {
@@ -100,12 +102,12 @@ fn from_items(alloc: Global, items: &Vec<Tree<'_>>) -> Result<Vec<Datum>, AllocE
 #[cycle(from_tree)]
 fn from_few(
     alloc: Global,
-    members: &Vec<(&str, Tree<'_>)>,
+    members: &[(&str, Tree<'_>)],
 ) -> Result<BTreeMap<String, Datum>, AllocError>
-    requires sorted { IsSorted (tree_members members.now.items) }
-    requires ordered { MembersAreOrdered (tree_members members.now.items) }
+    requires sorted { IsSorted (tree_members members.now) }
+    requires ordered { MembersAreOrdered (tree_members members.now) }
     ensures { IfOk result
-        (λ m. members_view m.entries ≡ members_from (tree_members members.now.items)) }
+        (λ m. members_view m.entries ≡ members_from (tree_members members.now)) }
 {
     let mut found = BTreeMap::new(alloc);
     for member in members {
@@ -118,12 +120,12 @@ fn from_few(
 #[cycle(from_tree)]
 fn from_many(
     alloc: Global,
-    members: &Vec<(&str, Tree<'_>)>,
+    members: &[(&str, Tree<'_>)],
 ) -> Result<BTreeMap<String, Datum>, AllocError>
-    requires sorted { IsSorted (tree_members members.now.items) }
-    requires ordered { MembersAreOrdered (tree_members members.now.items) }
+    requires sorted { IsSorted (tree_members members.now) }
+    requires ordered { MembersAreOrdered (tree_members members.now) }
     ensures { IfOk result
-        (λ m. members_view m.entries ≡ members_from (tree_members members.now.items)) }
+        (λ m. members_view m.entries ≡ members_from (tree_members members.now)) }
 {
     let mut found = Vec::with_capacity(alloc, members.len())?;
     for member in members {

@@ -22,6 +22,7 @@ ghost use Rattle.fp_shown.specs.declared.fault.ShownFault.TheVariants.{NoSet};
 use crate::fault::ShownFault;
 use crate::lawful::every_set_is_lawful;
 use crate::members::{Member, member_in};
+use bumpalo::Bump;
 use fp_base::{Tree, read_tree};
 use fp_definition::{Definition, FlagKey, KeyFault, LONGEST_DEFINITION, LONGEST_KEY};
 use fp_edit::{FLAG_FRAME, Flag, FlagSet, IMAGE_HEAD, MOST_FLAGS, REVISIONS_END, definition_under};
@@ -180,7 +181,8 @@ fn key_in(alloc: Global, name: &[u8], scratch: &mut Scratch) -> Result<FlagKey, 
     if name.len() > LONGEST_NAME {
         return Err(ShownFault::NoSet);
     }
-    let Some(tree) = read_tree(alloc, name, scratch)? else {
+    let arena = Bump::new(alloc);
+    let Some(tree) = read_tree(alloc, &arena, name, scratch)? else {
         return Err(ShownFault::NoSet);
     };
     let Some(text) = text_of(&tree) else {

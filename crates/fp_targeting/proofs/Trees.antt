@@ -1,6 +1,7 @@
 -- The rule of an object, by how many members it has.
-use Rattle.std.proofs.Common.{◌≡◌, ℕ, List, [], ◌∷◌, Vec, Global, true, false, Some, is_some, length, get_or, refl, sym}
+use Rattle.std.proofs.Common.{◌≡◌, ℕ, List, [], ◌∷◌, true, false, Some, is_some, length, get_or, refl, sym}
 use Rattle.std.proofs.Common.{ap, ◌∙◌, arith, if◌then◌else◌, Bool, not, ◌==◌}
+use Rattle.std.specs.Borrow.{Bor}
 use Rattle.serde_json.specs.Data.{Data, null, boolean, number, string, array, object, member, no_members}
 use Rattle.fp_base.specs.TreeView.{Entry, tree_view, tree_members}
 use Rattle.fp_base.specs.declared.tree.Tree.TheVariants.{Object}
@@ -16,9 +17,9 @@ only-member (x ∷ []) m h e = ap (λ y. tree_members (y ∷ [])) (sym e)
 only-member (x ∷ y ∷ ms) m h e = absurd (omega arith)
 
 -- an object of one member
-pub only-Object : (v : Vec Entry Global) (m : Entry) → length v.items ≡ 1 → m ≡ get_or v.items 0 m →
+pub only-Object : (v : Bor (List Entry)) (m : Entry) → length v.now ≡ 1 → m ≡ get_or v.now 0 m →
     tree_view (Object v) ≡ object (member m.0.now (tree_view m.1) no_members)
-only-Object v m h e = view-Object v ∙ ap object (only-member v.items m h e)
+only-Object v m h e = view-Object v ∙ ap object (only-member v.now m h e)
 
 -- a name that is no operator's, and one that is
 pub unknown-unnamed : (k : List ℕ) (d : Data) → is_some (operator_of k) ≡ false → first_unknown (object (member k d no_members)) ≡ Some k

@@ -361,7 +361,7 @@ impl Builder {
                     self.load_constant(alloc, json)?;
                     return Ok(true);
                 }
-                Ok(self.list(alloc, items.as_slice(), height)?)
+                Ok(self.list(alloc, items, height)?)
             }
             Json::Object(members) => {
                 if members.len() != 1 {

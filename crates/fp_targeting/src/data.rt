@@ -13,6 +13,7 @@ ghost use Rattle.fp_targeting.specs.RuleData.{TurnsTo, rule_data, flag_data, wit
 ghost use Rattle.fp_targeting.specs.declared.turn.TheConstants.{ROOM_FOR_A_KEY};
 
 use crate::turn::{ROOM_FOR_A_KEY, turn_to};
+use bumpalo::Bump;
 use fp_base::Tree;
 use fp_operators::{Datum, Text};
 use serde_json::Value;
@@ -54,7 +55,8 @@ impl Data {
         requires moment { now < 2 ^ 63 }
         ensures { IfOk result (λ d. d ≡ rule_data (json_view context.now) flag_key.now now) }
     {
-        let tree = Tree::of_value(alloc, context)?;
+        let arena = Bump::new(alloc);
+        let tree = Tree::of_value(&arena, context)?;
         Data::of_tree(alloc, &tree, flag_key, now)
     }
 

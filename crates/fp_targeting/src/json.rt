@@ -25,7 +25,7 @@ pub fn arguments<'t, 'j>(json: &'t Json<'j>) -> &'t [Json<'j>]
     ensures few { items_count (tree_items result.now) ≤ count (tree_view json.now) }
 {
     match json {
-        Json::Array(items) => items.as_slice(),
+        Json::Array(items) => *items,
         _ => from_ref(json),
     }
 }
@@ -59,8 +59,8 @@ pub fn is_literal(json: &Json<'_>) -> bool
 }
 
 /// The same of each of these.
-pub fn are_literals(items: &Vec<Json<'_>>) -> bool
-    ensures { result ≡ all_literal (tree_items items.now.items) }
+pub fn are_literals(items: &[Json<'_>]) -> bool
+    ensures { result ≡ all_literal (tree_items items.now) }
 {
     for item in items {
         if !is_literal(item) {
@@ -86,7 +86,7 @@ pub fn writes(json: &Json<'_>, datum: &Datum) -> bool
 {
     match (datum, json) {
         (Datum::Text(a), Json::String(b)) => a.as_str().len() == b.len() && a.as_str() == *b,
-        (Datum::List(made), Json::Array(items)) => all_write(items.as_slice(), made.as_slice()),
+        (Datum::List(made), Json::Array(items)) => all_write(items, made.as_slice()),
         _ => is_scalar(json, datum),
     }
 }

@@ -29,8 +29,8 @@ pub fn unknown_operator<'t>(json: &'t Json<'_>) -> Option<&'t str>
 }
 
 #[cycle(names)]
-fn unknown_among<'t>(items: &'t Vec<Json<'_>>) -> Option<&'t str>
-    ensures { option_map (λ s. s.now) result ≡ items_unknown (tree_items items.now.items) }
+fn unknown_among<'t>(items: &'t [Json<'_>]) -> Option<&'t str>
+    ensures { option_map (λ s. s.now) result ≡ items_unknown (tree_items items.now) }
 {
     for item in items {
         if let Some(name) = unknown_operator(item) {

@@ -70,7 +70,7 @@ fn pair_in<'j>(json: &'j Json<'_>) -> Option<Pair<'j>>
     ensures { option_map pair_view result ≡ pair_written (tree_view json.now) }
 {
     match json {
-        Json::Array(items) => pair_of(items.as_slice()),
+        Json::Array(items) => pair_of(items),
         _ => None,
     }
 }

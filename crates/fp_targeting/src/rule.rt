@@ -21,6 +21,7 @@ ghost use Rattle.fp_targeting.specs.Moment.{IsTimeless};
 use crate::build::code_of;
 use crate::data::Data;
 use crate::names::unknown_operator;
+use bumpalo::Bump;
 use fp_base::{Tree as Json, nests_within};
 use fp_machine::{Code, Found};
 use fp_operators::Datum;
@@ -103,7 +104,8 @@ impl Rule {
         if !nests_within(value, DEEPEST_RULE) {
             return Err(RuleFault::TooDeep);
         }
-        let json = Json::of_value(alloc, value)?;
+        let arena = Bump::new(alloc);
+        let json = Json::of_value(&arena, value)?;
         if !json.has_whole_numbers() {
             return Err(refusal(alloc, &json));
         }

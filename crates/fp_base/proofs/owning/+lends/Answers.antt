@@ -41,4 +41,5 @@ lent_members-loop-name-preserved t c =
 pub lent_members-returns-clause-sorted : goal.lent_members-returns-clause-sorted
 lent_members-returns-clause-sorted t c =
     let all : tree_members c.loop-name.found.items ≡ members_view c.args.members.now.entries = search rules in
-    subst IsSorted (sym all) (sorted-keys c.args.members.now.entries c.iter-name-items.ensures.ordered)
+    subst (λ ms. IsSorted (tree_members ms)) (sym c.into_bump_slice.ensures)
+    (subst IsSorted (sym all) (sorted-keys c.args.members.now.entries c.iter-name-items.ensures.ordered))

@@ -13,7 +13,7 @@ use Rattle.fp_base.proofs.owning.+owns.Goals as goal
 
 pub owned_members-loop-member-preserved : goal.owned_members-loop-member-preserved
 owned_members-loop-member-preserved t c ordered =
-    let ms = c.deref-member-items.result.now in
+    let ms = c.args.members.now in
     let i = c.loop-member.member-index in
     let m : Entry = c.member-item.result in
     let e : values.Entry = (c.in_ok-name.name, c.in_ok-owned.field-0) in
@@ -29,12 +29,11 @@ owned_members-loop-member-preserved t c ordered =
 
 pub owned_members-returns : goal.owned_members-returns
 owned_members-returns t c sorted ordered =
-    let ms = c.deref-member-items.result.now in
-    let same : ms ≡ c.args.members.now.items = c.deref-member-items.ensures.value in
+    let ms = c.args.members.now in
     let xs = c.loop-member.found.items in
     let n = c.in_ok-collect.field-0 in
     let made : IsFromIterResult string_cmp xs n = search rules in
-    let done = c.loop-member.invariant (subst (λ ys. MembersAreOrdered (tree_members ys)) (sym same) ordered) in
-    let all : tree_members c.args.members.now.items ≡ members_view xs =
-    ap tree_members (sym same ∙ sym (take_all c.loop-member.member-index ms (omega arith))) ∙ done.0 in
+    let done = c.loop-member.invariant ordered in
+    let all : tree_members ms ≡ members_view xs =
+    ap tree_members (sym (take_all c.loop-member.member-index ms (omega arith))) ∙ done.0 in
     collected xs n made (subst IsSorted all sorted) ∙ sym all

@@ -6,11 +6,11 @@ use Rattle.fp_base.proofs.owning.+owns.Given as goal
 
 abbrev pub invariant-owned_items-loop-item : goal.invariant-owned_items-loop-item
 invariant-owned_items-loop-item l =
-    AreOrdered (tree_items l.item-items)
-    → (map view l.found.items ≡ map tree_view (take l.item-index l.item-items)) × AreOrdered (tree_items (drop l.item-index l.item-items))
+    AreOrdered (tree_items l.items)
+    → (map view l.found.items ≡ map tree_view (take l.item-index l.items)) × AreOrdered (tree_items (drop l.item-index l.items))
 
 abbrev pub invariant-owned_members-loop-member : goal.invariant-owned_members-loop-member
 invariant-owned_members-loop-member l =
-    MembersAreOrdered (tree_members l.member-items)
-    → (tree_members (take l.member-index l.member-items) ≡ members_view l.found.items) ×
-    MembersAreOrdered (tree_members (drop l.member-index l.member-items))
+    MembersAreOrdered (tree_members l.members)
+    → (tree_members (take l.member-index l.members) ≡ members_view l.found.items) ×
+    MembersAreOrdered (tree_members (drop l.member-index l.members))

@@ -7,7 +7,7 @@ use Rattle.serde_json.specs.Read.{of_json, of_items, of_members, converted}
 use Rattle.fp_base.specs.Gathered.{gathered}
 use Rattle.fp_base.specs.Ordered.{AreOrdered, MembersAreOrdered}
 use Rattle.fp_base.specs.Sorted.{IsSorted}
-use Rattle.fp_base.specs.TreeView.{tree_view, tree_items}
+use Rattle.fp_base.specs.TreeView.{tree_view, tree_items, tree_members}
 use Rattle.fp_base.proofs.Entries.{items_ordered-more}
 use Rattle.fp_base.proofs.Parsed.{array-parsed, end-of-members, no-member, no-name, object-parsed, one-item, one-member}
 use Rattle.fp_base.proofs.Read.{items_before, one_more_item, ordered-put}
@@ -117,4 +117,4 @@ read_members-returns-clause-ok t c =
     let l = c.members in
     let r = c.next_key.new.self in
     l.invariant.2 ∙ end-of-members (value c.args.depth) (gathered l.found) l.invariant.0 l.reader r l.invariant.1 (grind arith)
-    ∙ ap (λ ms. Some (ms, r)) (sym c.in_ok-into_members.ensures)
+    ∙ ap (λ ms. Some (ms, r)) (sym (ap tree_members (c.in_ok-members.ensures ∙ c.deref.ensures.value) ∙ c.in_ok-found.ensures))

@@ -29,8 +29,8 @@ returns-then-is_some-clause-value c =
     sym (json_of_refused bytes (λ utf8. text-with_more (json.value 127 (tokens bytes)) (tree_view c.in-Ok.tree)
     left.0 c.read.new.reader c.next.new.self parsed left.1))
 
-pub returns-else-is_some-clause-value : goal.returns-else-is_some-clause-value
-returns-else-is_some-clause-value c =
+pub returns-in-Ok-clause-value : goal.returns-in-Ok-clause-value
+returns-in-Ok-clause-value c =
     let bytes = c.args.bytes.now in
     let begun = c.in_ok-reader.ensures.ok ∙ ap tokens c.in-Some.ensures.0 in
     let over : c.read.new.reader ≡ [] =

@@ -14,7 +14,7 @@ use Rattle.fp_base.proofs.writing.+puts.Goals as goal
 
 pub put_items-loop-item-preserved : goal.put_items-loop-item-preserved
 put_items-loop-item-preserved t c =
-    let xs = c.deref-item-items.result.now in
+    let xs = c.args.items.now in
     let i = c.loop-item.item-index in
     let x : Tree = c.item-item.result in
     let l = c.loop-item in
@@ -31,15 +31,14 @@ put_items-loop-item-preserved t c =
 pub put_items-returns-clause-printed : goal.put_items-returns-clause-printed
 put_items-returns-clause-printed t c =
     let l = c.loop-item in
-    let none = drop_all l.item-index c.deref-item-items.result.now (omega arith) in
-    let all : AreItemsPrinted false (tree_items c.args.items.now.items) =
-    subst (λ xs. AreItemsPrinted false (tree_items xs)) c.deref-item-items.ensures.value
-    (l.invariant.2 (subst (λ xs. AreItemsPrinted l.later (tree_items xs)) (sym none) (no_items_printed l.later))) in
+    let none = drop_all l.item-index c.args.items.now (omega arith) in
+    let all : AreItemsPrinted false (tree_items c.args.items.now) =
+    l.invariant.2 (subst (λ xs. AreItemsPrinted l.later (tree_items xs)) (sym none) (no_items_printed l.later)) in
     (bracket_before _ all.0, all.1)
 
 pub put_members-loop-member-preserved : goal.put_members-loop-member-preserved
 put_members-loop-member-preserved t c =
-    let xs = c.deref-member-items.result.now in
+    let xs = c.args.members.now in
     let i = c.loop-member.member-index in
     let m : Entry = c.member-item.result in
     let l = c.loop-member in
@@ -57,8 +56,7 @@ put_members-loop-member-preserved t c =
 pub put_members-returns-clause-printed : goal.put_members-returns-clause-printed
 put_members-returns-clause-printed t c =
     let l = c.loop-member in
-    let none = drop_all l.member-index c.deref-member-items.result.now (omega arith) in
-    let all : AreMembersPrinted false (tree_members c.args.members.now.items) =
-    subst (λ xs. AreMembersPrinted false (tree_members xs)) c.deref-member-items.ensures.value
-    (l.invariant.2 (subst (λ xs. AreMembersPrinted l.later (tree_members xs)) (sym none) (no_members_printed l.later))) in
+    let none = drop_all l.member-index c.args.members.now (omega arith) in
+    let all : AreMembersPrinted false (tree_members c.args.members.now) =
+    l.invariant.2 (subst (λ xs. AreMembersPrinted l.later (tree_members xs)) (sym none) (no_members_printed l.later)) in
     (brace_before _ all.0, all.1)

@@ -5,9 +5,9 @@ use Rattle.json.specs.Print.{quoted}
 use Rattle.serde_json.specs.Data.{no_items, item}
 use Rattle.serde_json.specs.Written.{comma_if}
 use Rattle.fp_base.specs.Places.{AreBefore}
-use Rattle.fp_base.specs.TreeView.{Entry, tree_members, tree_view}
+use Rattle.fp_base.specs.TreeView.{Entry, tree_items, tree_members, tree_view}
 use Rattle.fp_base.specs.declared.tree.Tree.{Tree}
-use Rattle.fp_canonical.specs.Reads.{Reads, ReadsItems, is_some_there}
+use Rattle.fp_canonical.specs.Reads.{Reads, ReadsItems, ReadsMembers, is_some_there}
 use Rattle.fp_base.proofs.Read.{items_before, items_before-no_items}
 use Rattle.fp_base.specs.Sorted.{IsSorted}
 use Rattle.fp_canonical.proofs.Read.{AreReadSoFar, item-read, items-more, no-item-read, read-end}
@@ -23,11 +23,12 @@ read_items-items-preserved t c =
     let l = c.items in
     let v : Tree = c.in_ok-item.item in
     let on : l.cursor ≡ comma_if l.later ++ c.next_item.new.self = search rules in
+    let pushed : c.push_reserved.new.self.items ≡ l.found.items ++ v ∷ [] = search rules in
     let shorter : length c.read_value.new.cursor ≤ length c.args.cursor.now =
     omega (arith, c.in_ok-item.ensures.shorter, l.invariant.1, ap length on, length-append (comma_if l.later) c.next_item.new.self) in (
       λ ds left rest.
           subst (λ xs. ReadsItems c.args.depth false xs c.args.cursor.now left)
-          (sym (ap (λ ts. items_before ts ds) c.in_ok-push.ensures.items ∙ items-more l.found.items v ds))
+          (sym (ap (λ ts. items_before ts ds) pushed ∙ items-more l.found.items v ds))
           (l.invariant.0 (item (tree_view v) ds) left
           (item-read c.args.depth l.later (tree_view v) ds l.cursor c.next_item.new.self c.read_value.new.cursor left on
           c.in_ok-item.ensures.read rest)),
@@ -46,7 +47,8 @@ pub read_items-returns-clause-read : goal.read_items-returns-clause-read
 read_items-returns-clause-read t c =
     let l = c.items in
     let end : l.cursor ≡ 93 ∷ c.next_item.new.self = search rules in
-    subst (λ ds. ReadsItems c.args.depth false ds c.args.cursor.now c.next_item.new.self) (items_before-no_items l.found.items)
+    subst (λ ds. ReadsItems c.args.depth false ds c.args.cursor.now c.next_item.new.self)
+    (items_before-no_items l.found.items ∙ ap tree_items (sym c.into_bump_slice.ensures))
     (l.invariant.0 no_items c.next_item.new.self (no-item-read c.args.depth l.later l.cursor c.next_item.new.self end))
 
 pub read_members-members-preserved : goal.read_members-members-preserved
@@ -78,7 +80,9 @@ pub read_members-returns-clause-read : goal.read_members-returns-clause-read
 read_members-returns-clause-read t c =
     let l = c.members in
     let end : l.cursor ≡ 125 ∷ c.next_name.new.self = search rules in
-    read-end c.args.depth l.found.items c.args.cursor.now l.cursor l.invariant.0 c.next_name.new.self end
+    subst (λ ms. ReadsMembers c.args.depth false (tree_members ms) c.args.cursor.now c.next_name.new.self)
+    (sym c.into_bump_slice.ensures)
+    (read-end c.args.depth l.found.items c.args.cursor.now l.cursor l.invariant.0 c.next_name.new.self end)
 
 pub read_members-members-init : goal.read_members-members-init
 read_members-members-init t c =

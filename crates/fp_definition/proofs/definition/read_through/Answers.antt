@@ -13,7 +13,7 @@ use Rattle.fp_definition.proofs.definition.read_through.Goals as goal
 
 pub finished-requires-clause-alike : goal.finished-requires-clause-alike
 finished-requires-clause-alike c =
-    let ms = c.args.found.members.items in
+    let ms = c.args.found.members.now in
     let own = c.extend_from_slice.new.self.items in
     let same : own ≡ c.args.text.now = search rules in
     let is = ap data_of same ∙ ap (λ o. unwrap_or o null) c.requires.read.reads in
@@ -22,7 +22,7 @@ finished-requires-clause-alike c =
 
 pub finished-requires-clause-alone : goal.finished-requires-clause-alone
 finished-requires-clause-alone c = λ none.
-    let ms = c.args.found.members.items in
+    let ms = c.args.found.members.now in
     let own = c.extend_from_slice.new.self.items in
     let same : own ≡ c.args.text.now = search rules in
     let is = ap data_of same ∙ ap (λ o. unwrap_or o null) c.requires.read.reads in
@@ -33,7 +33,7 @@ finished-requires-clause-targeting c =
     let own = c.extend_from_slice.new.self.items in
     let same : own ≡ c.args.text.now = search rules in
     let is = ap data_of same ∙ ap (λ o. unwrap_or o null) c.requires.read.reads in
-    beside_is c.args.found.noted.other c.args.found.members.items _ (view-Object c.args.found.members) c.requires.told
+    beside_is c.args.found.noted.other c.args.found.members.now _ (view-Object c.args.found.members) c.requires.told
     ∙ ap (get (codes "targeting")) (sym is)
 
 pub returns-in-Ok : goal.returns-in-Ok
@@ -42,6 +42,6 @@ returns-in-Ok c =
     let own = c.extend_from_slice.new.self.items in
     let same : own ≡ text = search rules in
     let is = ap data_of same ∙ ap (λ o. unwrap_or o null) c.requires.read.reads in
-    let canonical = is_definition_text-compact_text text (object_with c.args.found.noted.other c.args.found.members.items)
+    let canonical = is_definition_text-compact_text text (object_with c.args.found.noted.other c.args.found.members.now)
     c.requires.read.reads (subst IsValid is c.in-Ok.ensures.valid) c.requires.read.spelled in
     ap Some (c.in-Ok.ensures.text ∙ same) ∙ sym (ap (λ b. if b then Some text else None) canonical)

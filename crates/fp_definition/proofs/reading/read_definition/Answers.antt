@@ -15,7 +15,7 @@ use Rattle.fp_definition.proofs.reading.read_definition.Goals as goal
 
 pub returns-clause-read : goal.returns-clause-read
 returns-clause-read c =
-    let found = c.in_ok-members.members.items in
+    let found = c.in_ok-members.members.now in
     let t = targeting_in c.in_ok-members.noted.other in
     let all = members_with t found no_members in
     let left = c.read_members.new.cursor in
@@ -37,7 +37,7 @@ returns-clause-read c =
 pub returns-clause-noted : goal.returns-clause-noted
 returns-clause-noted c =
     let noted = c.in_ok-members.noted in
-    let all = members_with (targeting_in noted.other) c.in_ok-members.members.items no_members in
+    let all = members_with (targeting_in noted.other) c.in_ok-members.members.now no_members in
     let left = c.read_members.new.cursor in
     let opened : c.args.text.now ≡ 123 ∷ c.take.new.self = sym c.new-cursor.ensures ∙ c.take.ensures.taken c.if-not-take.false in
     let text = opened ∙ ap (λ xs. 123 ∷ xs) c.in_ok-members.ensures.read.spelled in

@@ -6,7 +6,7 @@ use Rattle.serde_json.specs.Written.{comma_if, compact_text, members_text}
 use Rattle.fp_base.specs.Places.{AreBefore}
 use Rattle.fp_base.specs.Sorted.{IsSorted}
 use Rattle.fp_base.specs.TreeView.{Entry, tree_view, tree_members}
-use Rattle.fp_canonical.specs.Reads.{Reads, is_some_there}
+use Rattle.fp_canonical.specs.Reads.{Reads, ReadsMembers, is_some_there}
 use Rattle.fp_canonical.proofs.Next.{AreLeft, all_left, member_here, member_named, member_refused}
 use Rattle.fp_canonical.proofs.Next.{members_next, members_over}
 use Rattle.fp_canonical.proofs.Read.{AreReadBehind, no-member-read, read-behind, sorted-on}
@@ -107,7 +107,9 @@ returns-clause-read c =
     let l = c.members in
     let left = c.next_name.new.self in
     let end : l.cursor ≡ 125 ∷ left = search rules in
-    l.invariant.0 no_members left (no-member-read (DEEPEST_DEFINITION - 1) (is_some_there l.found.items) l.cursor left end)
+    subst (λ es. ReadsMembers (DEEPEST_DEFINITION - 1) false
+    (members_with (targeting_in l.noted.other) es no_members) c.args.cursor.now left) (sym c.into_bump_slice.ensures)
+    (l.invariant.0 no_members left (no-member-read (DEEPEST_DEFINITION - 1) (is_some_there l.found.items) l.cursor left end))
 
 pub returns-clause-noted : goal.returns-clause-noted
 returns-clause-noted c = λ before len.
@@ -120,8 +122,10 @@ returns-clause-noted c = λ before len.
     let read = l.invariant.0 no_members left (no-member-read (DEEPEST_DEFINITION - 1) (is_some_there l.found.items) l.cursor left end) in
     let same = same_passed before (members_text false all) left c.args.cursor.now h.0 (125 ∷ []) read.spelled
     (h.1 ∙ ap (λ xs. h.0 ++ xs) end) in
-    subst (λ xs. AreNoted xs vs l.noted.places no_members all) (sym same)
-    (noted_more h.0 (125 ∷ []) vs l.noted.places no_members all (h.2 no_members))
+    subst (λ es. AreNoted (before ++ members_text false (members_with (targeting_in l.noted.other) es no_members)) vs
+    l.noted.places no_members (members_with (targeting_in l.noted.other) es no_members)) (sym c.into_bump_slice.ensures)
+    (subst (λ xs. AreNoted xs vs l.noted.places no_members all) (sym same)
+    (noted_more h.0 (125 ∷ []) vs l.noted.places no_members all (h.2 no_members)))
 
 -- ---- what is taken
 

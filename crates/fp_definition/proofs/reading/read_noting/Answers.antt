@@ -6,13 +6,13 @@ use Rattle.serde_json.specs.Written.{comma_if, compact_text, members_text}
 use Rattle.fp_base.specs.Places.{AreBefore}
 use Rattle.fp_base.specs.Sorted.{IsSorted}
 use Rattle.fp_base.specs.TreeView.{Entry, tree_view, tree_members}
-use Rattle.fp_canonical.specs.Reads.{Reads, is_some_there}
+use Rattle.fp_canonical.specs.Reads.{Reads, ReadsMembers, is_some_there}
 use Rattle.fp_canonical.proofs.Next.{AreLeft, all_left, member_here, member_named, member_refused}
 use Rattle.fp_canonical.proofs.Next.{members_next, members_over}
 use Rattle.fp_canonical.proofs.Read.{AreReadSoFar, members-all, members-more, members_before}
 use Rattle.fp_canonical.proofs.Read.{read-end, read-on, sorted-on}
 use Rattle.fp_definition.specs.Numbers.{DEEPEST_DEFINITION}
-use Rattle.fp_definition.specs.Spelled.{AreWithin, spelled, texts}
+use Rattle.fp_definition.specs.Spelled.{AreAt, AreWithin, spelled, texts}
 use Rattle.fp_definition.specs.declared.spelling.Variant.{Variant}
 use Rattle.fp_definition.proofs.Passed.{name_text, past, past_name, passed_len, same_passed}
 use Rattle.fp_definition.proofs.Spelled.{all_more, at_new, noted_spelled, noted_within}
@@ -95,7 +95,9 @@ pub returns-clause-read : goal.returns-clause-read
 returns-clause-read c =
     let l = c.members in
     let end : l.cursor ≡ 125 ∷ c.next_name.new.self = search rules in
-    read-end (DEEPEST_DEFINITION - 2) l.found.items c.args.cursor.now l.cursor l.invariant.0 c.next_name.new.self end
+    subst (λ es. ReadsMembers (DEEPEST_DEFINITION - 2) false (tree_members es) c.args.cursor.now c.next_name.new.self)
+    (sym c.into_bump_slice.ensures)
+    (read-end (DEEPEST_DEFINITION - 2) l.found.items c.args.cursor.now l.cursor l.invariant.0 c.next_name.new.self end)
 
 pub returns-clause-noted : goal.returns-clause-noted
 returns-clause-noted c = λ before len.
@@ -106,12 +108,14 @@ returns-clause-noted c = λ before len.
     let all = tree_members l.found.items in
     let read = read-end (DEEPEST_DEFINITION - 2) l.found.items c.args.cursor.now l.cursor l.invariant.0 left end in
     let same = same_passed before (members_text false all) left c.args.cursor.now h.0 (125 ∷ []) read.spelled
-    (h.1 ∙ ap (λ xs. h.0 ++ xs) end) in record {
+    (h.1 ∙ ap (λ xs. h.0 ++ xs) end) in
+    subst (λ es. AreAt (before ++ members_text false (tree_members es)) l.variants.items (tree_members es)) (sym c.into_bump_slice.ensures)
+    (record {
       spelled =
           ap (λ xs. spelled xs l.variants.items no_members) same ∙ spelled_more h.0 (125 ∷ []) l.variants.items no_members h.3
           ∙ h.2 no_members ∙ ap texts (members-all l.found.items);
       within = subst (λ xs. AreWithin xs l.variants.items) (sym same) (all_more h.0 (125 ∷ []) l.variants.items h.3);
-    }
+    })
 
 -- ---- what is taken
 

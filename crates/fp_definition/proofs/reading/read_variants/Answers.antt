@@ -15,7 +15,7 @@ same ms ns h = cc
 
 pub returns-then-take-clause-noted : goal.returns-then-take-clause-noted
 returns-then-take-clause-noted c = λ passed len ms is.
-    let all = tree_members c.in_ok-members.members.items in
+    let all = tree_members c.in_ok-members.members.now in
     let vs = c.in_ok-members.variants.items in
     let seen = view-Object c.in_ok-members.members in
     let opened = c.take.ensures.taken c.if-take.true in

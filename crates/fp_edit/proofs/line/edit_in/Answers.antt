@@ -13,7 +13,7 @@ use Rattle.fp_edit.proofs.line.edit_in.Goals as goal
 pub returns-then-is_set-clause-value : goal.returns-then-is_set-clause-value
 returns-then-is_set-clause-value c =
     let d = tree_view c.args.tree.now in
-    let seen = seen_members _ c.in-Object.members _ c.in-Object.is c.deref.ensures.value in
+    let seen = seen_members _ c.in-Object.members c.in-Object.is in
     let set = sym (c.is_set.ensures ∙ ap says.is_set_text c.get-op.ensures) ∙ c.if-is_set.true in
     subst (Gives proposal_of Tells c.set_in.result) (sym (edit_of_set d _ seen set)) c.set_in.ensures.value
 
@@ -28,6 +28,6 @@ returns-in-Err-clause-value c =
 pub returns-then-is_set-clause-memory : goal.returns-then-is_set-clause-memory
 returns-then-is_set-clause-memory c =
     let d = tree_view c.args.tree.now in
-    let seen = seen_members _ c.in-Object.members _ c.in-Object.is c.deref.ensures.value in
+    let seen = seen_members _ c.in-Object.members c.in-Object.is in
     let set = sym (c.is_set.ensures ∙ ap says.is_set_text c.get-op.ensures) ∙ c.if-is_set.true in
     IfErr-weaker c.set_in.result _ _ (λ e h wanting. asks-set d _ seen set (h wanting)) c.set_in.ensures.memory

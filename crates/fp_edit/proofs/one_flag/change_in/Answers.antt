@@ -10,18 +10,18 @@ use Rattle.fp_edit.proofs.one_flag.change_in.Goals as goal
 
 pub returns-then-not-all_known-clause-value : goal.returns-then-not-all_known-clause-value
 returns-then-not-all_known-clause-value c =
-    part_unknown (tree_view c.args.tree.now) _ (seen_members _ c.in-Object.members _ c.in-Object.is c.deref.ensures.value)
+    part_unknown (tree_view c.args.tree.now) _ (seen_members _ c.in-Object.members c.in-Object.is)
     (sym c.all_known.ensures ∙ c.if-not-all_known.true)
 
 pub returns-clause-value : goal.returns-clause-value
 returns-clause-value c =
-    let known = part_known (tree_view c.args.tree.now) _ (seen_members _ c.in-Object.members _ c.in-Object.is c.deref.ensures.value)
+    let known = part_known (tree_view c.args.tree.now) _ (seen_members _ c.in-Object.members c.in-Object.is)
     (sym c.all_known.ensures ∙ c.if-not-all_known.false) in
     subst (Gives proposed_of TellsPart c.change_with.result) (sym known) c.change_with.ensures.value
 
 pub returns-clause-memory : goal.returns-clause-memory
 returns-clause-memory c =
     let d = tree_view c.args.tree.now in
-    let seen = seen_members _ c.in-Object.members _ c.in-Object.is c.deref.ensures.value in
+    let seen = seen_members _ c.in-Object.members c.in-Object.is in
     let known = sym c.all_known.ensures ∙ c.if-not-all_known.false in
     IfErr-weaker c.change_with.result _ _ (λ e h wanting. asks-part d _ seen known (h wanting)) c.change_with.ensures.memory

@@ -7,10 +7,10 @@ use Rattle.fp_imports.proofs.references.+stands.Given as goal
 -- what is left decides for all, and is counted from what is left
 abbrev pub invariant-uncounted_items-loop-item : goal.invariant-uncounted_items-loop-item
 invariant-uncounted_items-loop-item l =
-    (items_refer (tree_items (drop l.item-index l.item-items)) ≡ false → items_refer (tree_items l.item-items) ≡ false)
-    × (l.left + items_count (tree_items (drop l.item-index l.item-items)) ≡ l.unused + items_count (tree_items l.item-items))
+    (items_refer (tree_items (drop l.item-index l.items)) ≡ false → items_refer (tree_items l.items) ≡ false)
+    × (l.left + items_count (tree_items (drop l.item-index l.items)) ≡ l.unused + items_count (tree_items l.items))
 
 abbrev pub invariant-uncounted_members-loop-member : goal.invariant-uncounted_members-loop-member
 invariant-uncounted_members-loop-member l =
-    (members_refer (tree_members (drop l.member-index l.member-items)) ≡ false → members_refer (tree_members l.member-items) ≡ false)
-    × (l.left + members_count (tree_members (drop l.member-index l.member-items)) ≡ l.unused + members_count (tree_members l.member-items))
+    (members_refer (tree_members (drop l.member-index l.members)) ≡ false → members_refer (tree_members l.members) ≡ false)
+    × (l.left + members_count (tree_members (drop l.member-index l.members)) ≡ l.unused + members_count (tree_members l.members))

@@ -5,4 +5,4 @@ use Rattle.fp_targeting.proofs.json.are_literals.Given as goal
 
 -- the items that are left decide as all do
 abbrev pub invariant-loop-item : goal.invariant-loop-item
-invariant-loop-item l = all_literal (tree_items (drop l.item-index l.item-items)) ≡ all_literal (tree_items l.item-items)
+invariant-loop-item l = all_literal (tree_items (drop l.item-index l.items)) ≡ all_literal (tree_items l.items)

@@ -5,4 +5,4 @@ use Rattle.fp_targeting.proofs.names.+names.Given as goal
 
 -- the items that are left decide for all
 abbrev pub invariant-unknown_among-loop-item : goal.invariant-unknown_among-loop-item
-invariant-unknown_among-loop-item l = items_unknown (tree_items (drop l.item-index l.item-items)) ≡ items_unknown (tree_items l.item-items)
+invariant-unknown_among-loop-item l = items_unknown (tree_items (drop l.item-index l.items)) ≡ items_unknown (tree_items l.items)

@@ -1,5 +1,5 @@
 use Rattle.std.proofs.Common.{arith, sym, ap, ◌∙◌, refl, subst, drop, take, [], ◌∷◌, ◌≢◌, ◌≡◌, ◌≤◌, ◌+◌, true, false}
-use Rattle.std.proofs.Common.{length, ◌-◌, ◌*◌, ◌<◌, ◌/◌}
+use Rattle.std.proofs.Common.{get_or, length, ◌-◌, ◌*◌, ◌<◌, ◌/◌}
 use Rattle.std.proofs.lemmas.Bool.{leb-true}
 use Rattle.std.proofs.lemmas.List.{take_rest, length-drop}
 use Rattle.serde_json.specs.Data.{no_items, item, array}
@@ -82,12 +82,9 @@ branches-compute-requires-in-pairs t c =
 pub compute-list-requires : goal.compute-list-requires
 compute-list-requires t c =
     let v = c.in-Array.items in
-    let shape : tree_view c.args.json.now ≡ array (tree_items v.items) = ap tree_view c.in-Array.is ∙ view-Array v in
-    let same = sym c.as_slice.ensures.value in
-    let counted : count (tree_view c.args.json.now) ≡ 1 + items_count (tree_items c.as_slice.result.now) =
-    ap count shape ∙ ap (λ xs. 1 + items_count (tree_items xs)) same in
-    let other = subst (λ xs. all_literal (tree_items xs) ≡ false) same (sym c.are_literals.ensures ∙ c.if-are_literals.false) in
-    (omega (arith, c.decreases, counted), (other, subst (λ xs. AreOrdered (tree_items xs)) same (subst IsOrdered shape c.requires)))
+    let shape : tree_view c.args.json.now ≡ array (tree_items v.now) = ap tree_view c.in-Array.is ∙ view-Array v in
+    let counted : count (tree_view c.args.json.now) ≡ 1 + items_count (tree_items v.now) = ap count shape in
+    (omega (arith, c.decreases, counted), (sym c.are_literals.ensures ∙ c.if-are_literals.false, subst IsOrdered shape c.requires))
 
 pub list-each_kept-requires : goal.list-each_kept-requires
 list-each_kept-requires t c = (omega (arith, c.decreases), c.requires.ordered)
@@ -99,11 +96,11 @@ list-compute-requires t c =
     let many = at-count 0 xs c.only-item.result within c.only-item.is in
     (omega (arith, c.decreases, many), at-ordered 0 xs c.only-item.result within c.only-item.is c.requires.ordered)
 
-pub compute-load_constant-requires-then-len-ne1-clause-plain : goal.compute-load_constant-requires-then-len-ne1-clause-plain
-compute-load_constant-requires-then-len-ne1-clause-plain t c =
+pub compute-load_constant-requires-then-members-ne1-clause-plain : goal.compute-load_constant-requires-then-members-ne1-clause-plain
+compute-load_constant-requires-then-members-ne1-clause-plain t c =
     let v = c.in-Object.members in
-    let others : length v.items ≢ 1 = grind (arith, v.ok, c.len.ensures, c.if-len-ne1.true) in
-    ap is_plain (ap tree_view c.in-Object.is ∙ view-Object v) ∙ others-plain v.items others
+    let others : length v.now ≢ 1 = grind (arith, c.if-members-ne1.true) in
+    ap is_plain (ap tree_view c.in-Object.is ∙ view-Object v) ∙ others-plain v.now others
 
 pub conditions-compute-requires : goal.conditions-compute-requires
 conditions-compute-requires t c =
@@ -389,8 +386,7 @@ pub compute-returns-in_ok-list-in-Array : goal.compute-returns-in_ok-list-in-Arr
 compute-returns-in_ok-list-in-Array t c =
     let v = c.in-Array.items in
     let b = c.in_ok-list-in-Array.field-0 in
-    let shape : array (tree_items c.as_slice.result.now) ≡ tree_view c.args.json.now =
-    ap (λ xs. array (tree_items xs)) c.as_slice.ensures.value ∙ sym (ap tree_view c.in-Array.is ∙ view-Array v) in
+    let shape : array (tree_items v.now) ≡ tree_view c.args.json.now = sym (ap tree_view c.in-Array.is ∙ view-Array v) in
     subst (Compiles b (λ r. Adds c.args.height r c.args.self.now.code c.list.new.self.code)) shape c.in_ok-list-in-Array.ensures
 
 pub list-returns : goal.list-returns
@@ -692,19 +688,21 @@ var-returns t c =
 pub compute-apply-requires : goal.compute-apply-requires
 compute-apply-requires t c =
     let v = c.in-Object.members in
-    let m = c.index-only.result.now in
-    let one : length v.items ≡ 1 = grind (arith, v.ok, c.len.ensures, c.if-len-ne1.false) in
-    let shape = ap tree_view c.in-Object.is ∙ only-Object v m one c.index-only.ensures in
+    let m = get_or v.now 0 c.index-members-0.result in
+    let here : m ≡ get_or v.now 0 m = ap (get_or v.now 0) c.index-members-0.is in
+    let one : length v.now ≡ 1 = grind (arith, c.if-members-ne1.false) in
+    let shape = ap tree_view c.in-Object.is ∙ only-Object v m one here in
     let counted = ap count shape in
     (omega (arith, c.decreases, counted, c.arguments.ensures.few), c.arguments.ensures.ordered)
 
 pub compute-returns-in_ok-apply-in-Some : goal.compute-returns-in_ok-apply-in-Some
 compute-returns-in_ok-apply-in-Some t c =
     let v = c.in-Object.members in
-    let m = c.index-only.result.now in
+    let m = get_or v.now 0 c.index-members-0.result in
+    let here : m ≡ get_or v.now 0 m = ap (get_or v.now 0) c.index-members-0.is in
     let b = c.in_ok-apply-in-Some.field-0 in
-    let one : length v.items ≡ 1 = grind (arith, v.ok, c.len.ensures, c.if-len-ne1.false) in
-    let shape = ap tree_view c.in-Object.is ∙ only-Object v m one c.index-only.ensures in
+    let one : length v.now ≡ 1 = grind (arith, c.if-members-ne1.false) in
+    let shape = ap tree_view c.in-Object.is ∙ only-Object v m one here in
     subst (Compiles b (λ r. Adds c.args.height r c.args.self.now.code c.apply.new.self.code)) (sym shape)
     (operation b m.0.now c.in-Some.operator (tree_view m.1) (tree_items c.arguments.result.now)
     (λ r. Adds c.args.height r c.args.self.now.code c.apply.new.self.code) (sym c.named.ensures ∙ c.in-Some.is)
@@ -713,9 +711,10 @@ compute-returns-in_ok-apply-in-Some t c =
 pub compute-returns-in-None : goal.compute-returns-in-None
 compute-returns-in-None t c =
     let v = c.in-Object.members in
-    let m = c.index-only.result.now in
-    let one : length v.items ≡ 1 = grind (arith, v.ok, c.len.ensures, c.if-len-ne1.false) in
-    let shape = ap tree_view c.in-Object.is ∙ only-Object v m one c.index-only.ensures in
+    let m = get_or v.now 0 c.index-members-0.result in
+    let here : m ≡ get_or v.now 0 m = ap (get_or v.now 0) c.index-members-0.is in
+    let one : length v.now ≡ 1 = grind (arith, c.if-members-ne1.false) in
+    let shape = ap tree_view c.in-Object.is ∙ only-Object v m one here in
     subst NoRule (sym shape) (unnamed m.0.now (tree_view m.1) (sym c.named.ensures ∙ c.in-None.is))
 
 pub find-returns-in-Some : goal.find-returns-in-Some
