@@ -130,11 +130,6 @@ turned-laid es h =
     let same = append-nil (reverse es) in
     sym (falling-laid [] es (subst (λ ys. IsSorted (tree_members ys)) (sym same) h) ∙ ap tree_members same)
 
--- one more below them
-pub falling-more : (es new : List Entry) (m : Entry) → IsFalling es → IsBelow m.0.now (tree_members (reverse es)) →
-    new ≡ es ++ m ∷ [] → IsFalling new
-falling-more es new m h below is = subst (λ ys. IsSorted (tree_members ys)) (sym (ap reverse is ∙ reverse-more es m)) (below, h)
-
 -- below the last of them
 pub below-last : (name : List ℕ) (ms front : List Entry) (m : Entry) → IsFalling ms → ms ≡ front ++ m ∷ [] →
     slice_cmp nat_cmp name m.0.now ≡ Less → IsBelow name (tree_members (reverse ms))

@@ -167,12 +167,6 @@ IsRead (unsigned n) = n < 2 ^ 64
 IsRead (negative z) = IsLow z
 IsRead (float x) = ⊤
 
-some_read : (m n : Num) → Some m ≡ Some n → IsRead m → IsRead n
-some_read m n h r = subst IsRead (same m n h) r
-  where
-    same : (x y : Num) → Some x ≡ Some y → x ≡ y
-    same x y h = cc
-
 float_read : (sign : Bool) (p : _) (n : Num) → float_of sign p ≡ Some n → IsRead n
 float_read sign p n h = grind arith
 

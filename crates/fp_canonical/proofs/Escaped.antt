@@ -14,7 +14,3 @@ escape-more bytes room at next len byte on fits before here both =
     both ∙ ap₂ (λ xs ys. xs ++ ys) before (here ∙ sym (append-nil (escape_byte byte)))
     ∙ sym (flat_map-append escape_byte (take len room) (byte ∷ []))
     ∙ sym (ap escape (take_more_set room len byte fits))
-
--- more that is spelled as it is
-pub plain-more : (xs ys : List ℕ) → escape xs ≡ xs → escape ys ≡ ys → escape (xs ++ ys) ≡ xs ++ ys
-plain-more xs ys p q = flat_map-append escape_byte xs ys ∙ ap₂ (λ f g. f ++ g) p q

@@ -63,14 +63,6 @@ plain_of x same = go (form x)
     go (inr (inl p)) = absurd (omega (arith, ap length (sym same ∙ p.3)))
     go (inr (inr p)) = absurd (omega (arith, ap length (sym same ∙ p.2)))
 
-pub letter_of : (x l : ℕ) → escape_byte x ≡ 92 ∷ l ∷ [] → is_letter l ≡ true
-letter_of x l same = go (form x)
-  where
-    go : Form x → is_letter l ≡ true
-    go (inl p) = absurd (omega (arith, ap length (sym same ∙ p.0)))
-    go (inr (inl p)) = subst (λ b. is_letter b ≡ true) (ap (λ r. get_or r 1 0) (sym p.3 ∙ same)) p.1
-    go (inr (inr p)) = absurd (omega (arith, ap length (sym same ∙ p.2)))
-
 letter_none : (x l : ℕ) → escape_letter x ≡ 0 → escape_byte x ≡ 92 ∷ l ∷ [] → is_letter l ≡ true → ⊥
 unfolding escape_byte
 letter_none x l none same is = go (cases_lt x 32)

@@ -3,7 +3,7 @@ use Rattle.std.proofs.Common.{◌≡◌, ◌+◌, ℕ, List, [], ◌∷◌, ◌+
 use Rattle.std.proofs.Common.{subst, ◌∙◌, arith}
 use Rattle.std.proofs.Common.{append_assoc}
 use Rattle.json.specs.Print.{quoted}
-use Rattle.serde_json.specs.Data.{Data, array, object, Items, no_items, item, Members, no_members}
+use Rattle.serde_json.specs.Data.{Data, object, Items, no_items, item, Members, no_members}
 use Rattle.serde_json.specs.Data.{member}
 use Rattle.serde_json.specs.Written.{comma_if, compact_text, items_text, members_text}
 use Rattle.fp_base.specs.Places.{AreBefore}
@@ -34,15 +34,6 @@ item-read limit later d ds one two three left same first rest = record {
 
 pub no-item-read : (limit : ℕ) (later : Bool) (text left : List ℕ) → text ≡ 93 ∷ left → ReadsItems limit later no_items text left
 no-item-read limit later text left same = record { spelled = same; ordered = tt; whole = refl; flat = omega arith }
-
-pub list-read : (limit : ℕ) (ds : Items) (one two left : List ℕ) → one ≡ 91 ∷ two → ReadsItems limit false ds two left →
-    Reads (limit + 1) (array ds) one left
-list-read limit ds one two left same r = record {
-  spelled = same ∙ ap (λ xs. 91 ∷ xs) r.spelled;
-  ordered = r.ordered;
-  whole = r.whole;
-  flat = omega (arith, r.flat);
-}
 
 -- ---- members
 

@@ -93,18 +93,6 @@ module _ (t : Taken) where
   unsealed (answer.Phase p) old new before now calls more not does well may rises made = absurd does
 
 -- ---- where it is held
-flying_not_drawn : (p : Phase) → progress_of held.InFlight p ≢ batch_drawn
-flying_not_drawn Idle e = absurd cc
-flying_not_drawn Staged e = absurd cc
-flying_not_drawn BodySynced e = absurd cc
-flying_not_drawn GateOpened e = absurd cc
-
--- what is drawn is held as that
-pub is_held : (h : Held) (p : Phase) → progress_of h p ≡ batch_drawn → ((group : Group) → h ≡ held.Drawn group → ⊥) → ⊥
-is_held held.Nothing p at other = absurd cc
-is_held (held.Drawn group) p at other = other group refl
-is_held held.InFlight p at other = flying_not_drawn p at
-is_held (held.Sealed receipt) p at other = absurd cc
 
 flying_out : (p : Phase) → progress_of held.InFlight p ≢ nothing_drawn
 flying_out Idle e = absurd cc

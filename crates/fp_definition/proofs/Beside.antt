@@ -34,11 +34,6 @@ pub in_place-it : (t : Option Data) (u : Data) (name : List ℕ) (d : Data) → 
     in_place t name d ≡ u
 in_place-it t u name d is h = ap (λ o. in_place o name d) is ∙ ap (λ (b : Bool). if b then u else d) h
 
-pub in_place-first : (o : Option (Bor (List ℕ))) (name : List ℕ) (d : Data) → (IsSome o → bytes_eq name (codes "targeting") ≡ false) →
-    in_place (targeting_in o) name d ≡ d
-in_place-first None name d h = refl
-in_place-first (Some o) name d h = in_place-other (targeting_in (Some o)) name d (h refl)
-
 -- ---- names in their order
 
 apart : (k l : List ℕ) → slice_cmp nat_cmp k l ≡ Less → k ≡ l → ⊥

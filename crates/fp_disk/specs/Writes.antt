@@ -2,7 +2,7 @@
 use Rattle.std.specs.Prelude.{◌≡◌, ◌≤◌, ◌<◌, ◌+◌, ◌-◌, ℕ, max, List, ◌++◌, length, take, drop}
 use Rattle.std.specs.Prelude.{replicate, slice_index}
 use Rattle.std.proofs.lemmas.Grind.{common_steps}
-use Rattle.std.proofs.lemmas.List.{get_or-append_right, get_or_append_left, get_or-drop}
+use Rattle.std.proofs.lemmas.List.{get_or-append_right, get_or-drop}
 use Rattle.std.proofs.Common.{ap, ◌∙◌, arith}
 use Rattle.fp_disk.specs.Outcomes.{with_bytes_at}
 
@@ -23,15 +23,3 @@ overwritten_behind old more at k le =
     get_or-append_right front (drop (at + length more) old) (at + length more) k 0 len le
     ∙ (get_or-drop (at + length more) old (k - (at + length more)) 0
     ∙ ap (λ (j : ℕ). slice_index old j) there)
-
-pub overwritten_inside : (old more : List ℕ) (at k : ℕ) → k < length more →
-    slice_index (with_bytes_at old at more) (at + k) ≡ slice_index more k
-overwritten_inside old more at k lt =
-    let front = take at (old ++ replicate (at - length old) 0) in
-    let len : length front ≡ at = grind (arith, common_steps) in
-    let len' : length (front ++ more) ≡ at + length more = grind (arith, common_steps) in
-    let there : at + k - at ≡ k = omega arith in
-    get_or_append_left (front ++ more) (drop (at + length more) old) 0 (at + k)
-    (omega (arith, len'))
-    ∙ (get_or-append_right front more at (at + k) 0 len (omega arith)
-    ∙ ap (λ (j : ℕ). slice_index more j) there)

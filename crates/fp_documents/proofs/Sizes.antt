@@ -139,9 +139,6 @@ count-remove m k =
     let new = fin.len-entries (fin.remove m k) in omega arith
 
 -- ---- a key's flag, by what it takes
-none_at : (k : List ℕ) (o : Option Flag) → cost_found k o ≡ 0 → o ≡ None
-none_at k None h = refl
-none_at k (Some f) h = absurd (omega (arith, h))
 
 some_at : (k : List ℕ) (o : Option Flag) → 0 < cost_found k o → (f : Flag) × (o ≡ Some f)
 some_at k None h = absurd (omega (arith, h))
@@ -153,10 +150,3 @@ found_within m k = let all = size-remove m k in omega (arith, all)
 
 pub found_some : (m : Flags) (k : List ℕ) → 0 < cost_found k (fin.get m k) → 0 < fin.len m
 found_some m k h = let all = count-remove m k in let one = ap one_found (some_at k (fin.get m k) h).1 in omega (arith, all, one)
-
--- it counts where it takes something
-pub found_counts : (k : List ℕ) (o : Option Flag) → 0 < cost_found k o → one_found o ≡ 1
-found_counts k o h = ap one_found (some_at k o h).1
-
-pub none_counts : (k : List ℕ) (o : Option Flag) → cost_found k o ≡ 0 → one_found o ≡ 0
-none_counts k o h = ap one_found (none_at k o h)

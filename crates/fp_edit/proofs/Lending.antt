@@ -9,7 +9,7 @@ use Rattle.std.proofs.Math.ListN.{drop_of_length-le, get_or-map}
 use Rattle.std.proofs.lemmas.List.{length-map}
 use Rattle.fp_base.specs.Tests.{first_failed}
 use Rattle.fp_base.proofs.Turns.{drop-here}
-use Rattle.fp_edit.specs.Admits.{has_revision, has_room, is_as_expected, is_within, keys, keys_from, present, refusal}
+use Rattle.fp_edit.specs.Admits.{has_revision, has_room, is_as_expected, is_within, keys, keys_from, present}
 use Rattle.fp_edit.specs.Edits.{change_in, joint, parts, Proposal, single}
 use Rattle.fp_edit.specs.Flags.{Flags, State, one_found, size}
 use Rattle.fp_edit.specs.Lent.{conflict_at, left_at, part_with, proposed}
@@ -53,10 +53,6 @@ Rest s p = (has_room s (change_in p), SetTooLarge) ∷ (has_revision s, Revision
 
 abbrev pub fault_from : State → Proposal → ℕ → Option EditFault
 fault_from s p i = first_failed (keys_left s p i ++ Rest s p)
-
-pub fault_begins : (s : State) (p : Proposal) → refusal s p ≡ fault_from s p 0
-fault_begins s (single p) = refl
-fault_begins s (joint ps) = refl
 
 module _ (s : State) where
   key_here : (p : Proposal) (i : ℕ) (x : ProposedPart) → i < length (parts (change_in p)) → x ≡ get_or (proposed p) i x

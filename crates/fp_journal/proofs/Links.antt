@@ -20,9 +20,6 @@ use Rattle.fp_journal.proofs.Steps.{All-push}
 use Rattle.fp_gate.specs.declared.gate.TheConstants.{OPEN}
 
 -- ---- the first link
-pub chain_within : (most at stop : ℕ) (bs : List (List ℕ)) (c : List ℕ) → IsChain most at stop bs c → (at < stop) × (at < length c)
-chain_within most at stop bs c h = let e = h.ends in let w = e.within in let l = e.holds.long in
-    let len = length-append (spell bs) (e.gate ∷ []) in (omega (arith, w), omega (arith, l, len))
 
 pub chain_first : (most at stop : ℕ) (b : List ℕ) (bs : List (List ℕ)) (c : List ℕ) →
     IsChain most at stop (b ∷ bs) c → IsNext most at stop b (at + 5 + length b) c ×

@@ -3,7 +3,6 @@ use Rattle.std.proofs.Common.{◌≡◌, ◌≤◌, ◌<◌, ℕ, List, [], ◌�
 use Rattle.std.proofs.Common.{inr, refl, sym, ap, ◌∙◌, length, arith}
 use Rattle.std.specs.Prelude.{Option, Some, Result, Ok, Err, bytes_eq, codes, if◌then◌else◌, unwrap_or}
 use Rattle.std.specs.FinMap as map
-use Rattle.std.specs.Result.{result_unwrap_or}
 use Rattle.std.proofs.lemmas.Bool.{le-ltb}
 use Rattle.std.proofs.lemmas.List.{length-set}
 use Rattle.std.proofs.lemmas.List.Elements.{All-cons, All-head, All-tail, All-push, All-set}
@@ -114,38 +113,6 @@ told_in set if_none_match (Ok context) body tag now is h =
 pub tag_told : (set : State) (if_none_match : Option (List ℕ)) (body tag : List ℕ) (now : ℕ)
     → (bulk_reply set if_none_match body now).etag ≡ Some tag → HasTag set body tag now
 tag_told set if_none_match body tag now h = told_in set if_none_match (context_of body) body tag now refl h
-
--- ---- the reply by its tag
-
--- the reply is that to a client that has the body, or has it not
-by_tag : (set : State) (if_none_match : Option (List ℕ)) (body tag : List ℕ) (now : ℕ) (h : HasTag set body tag now)
-    → bulk_reply set if_none_match body now
-    ≡ (if is_known tag if_none_match then not_modified set.revision tag
-    else success_response set.revision (Some tag) (compact_text (bulk_data set.flags h.context now)))
-by_tag set if_none_match body tag now h =
-    let text = compact_text (bulk_data set.flags h.context now) in
-    ap (λ r. bulk_in set if_none_match r now) h.asked
-    ∙ ap (λ t. if is_known t if_none_match then not_modified set.revision t else success_response set.revision (Some t) text) (sym h.tagged)
-
-pub known_reply : (set : State) (if_none_match : Option (List ℕ)) (body tag : List ℕ) (now : ℕ) → HasTag set body tag now
-    → is_known tag if_none_match ≡ true → not_modified set.revision tag ≡ bulk_reply set if_none_match body now
-known_reply set if_none_match body tag now h known =
-    sym (by_tag set if_none_match body tag now h
-    ∙ ap (λ (b : Bool). if b then not_modified set.revision tag
-    else success_response set.revision (Some tag) (compact_text (bulk_data set.flags h.context now))) known)
-
-ok_is : (r : Result Data Failure) (a b : Data) → Ok a ≡ r → r ≡ Ok b → a ≡ b
-ok_is r a b is h = ap (λ (x : Result Data Failure). result_unwrap_or x a) (is ∙ h)
-
-pub other_reply : (set : State) (if_none_match : Option (List ℕ)) (body tag text : List ℕ) (now : ℕ) (d : Data) → HasTag set body tag now
-    → Ok d ≡ context_of body → text ≡ compact_text (bulk_data set.flags d now) → is_known tag if_none_match ≡ false
-    → success_response set.revision (Some tag) text ≡ bulk_reply set if_none_match body now
-other_reply set if_none_match body tag text now d h is made unknown =
-    ap (λ t. success_response set.revision (Some tag) t)
-    (made ∙ ap (λ c. compact_text (bulk_data set.flags c now)) (ok_is (context_of body) d h.context is h.asked))
-    ∙ sym (by_tag set if_none_match body tag now h
-    ∙ ap (λ (b : Bool). if b then not_modified set.revision tag
-    else success_response set.revision (Some tag) (compact_text (bulk_data set.flags h.context now))) unknown)
 
 -- ---- who asks for all flags
 

@@ -51,11 +51,6 @@ reads_whole_number (b ∷ ds) r h no_plus =
           (to_below (b ∷ ds) _ _) (from_below (b ∷ ds) _ _)
     ] refl
 
--- a text that does is no number
-pub no_whole_number : (bs : List ℕ) → begins_with_plus bs ≡ true → None ≡ whole_number_of bs
-no_whole_number [] h = refl
-no_whole_number (b ∷ ds) h = let is : b ≡ 43 = grind (arith, h) in rw is refl
-
 -- places
 to_place : (bs : List ℕ) (v : ℕ) → leads_with_zero bs ≡ false → (all_ascii_digits bs ≡ true) × (0 < length bs) ×
     (v < 2 ^ 64) → is_numeral bs && not (leads_with_zero bs) && nat_lt v (2 ^ 64) ≡ true

@@ -28,10 +28,6 @@ use Rattle.fp_committer.specs.declared.fault.CommitFault.{CommitFault}
 use Rattle.fp_committer.specs.declared.fault.CommitFault.TheVariants as commit
 use Rattle.fp_session.specs.Session.{AreAtRest, AreOne, CanFail, disk_of, Fails, IsInStep, Keeps, LeavesFlags, SessionState}
 
--- what may stand where all is settled is the head
-pub settled_only : (d : DeskState) → d.drawn ≡ [] → d.waiting ≡ [] → (u : State) → IsAfterFirst d (settled_revision d) u → u ≡ head d
-settled_only d none_drawn none_waiting u a = grind (arith, take_all, length-append)
-
 module _ (d mid : DeskState) (edit : Proposal) (acc : IsAccepted d mid edit) where
   pub mid_store : mid.store ≡ d.store
   mid_store = ap (λ (x : DeskState). x.store) acc.new_is

@@ -8,7 +8,7 @@ use Rattle.fp_base.specs.Whole.{is_whole}
 use Rattle.fp_operators.specs.FromJson.{data_of}
 use Rattle.fp_machine.specs.Rule as tree
 use Rattle.fp_machine.specs.Rule.{Rule}
-use Rattle.fp_machine.specs.Operators.{operator_of, allows, well_formed, all_well_formed}
+use Rattle.fp_machine.specs.Operators.{operator_of, allows}
 use Rattle.fp_machine.specs.View.{rules_of}
 use Rattle.fp_machine.specs.Numbers.{DEEPEST_RULE}
 use Rattle.fp_targeting.specs.Numbers.{MOST_RULE_VALUES}
@@ -68,13 +68,6 @@ abbrev mutual
 abbrev pub arguments_of : Data → Option (List Rule)
 arguments_of (array ds) = rules_from ds
 arguments_of d = one_more (rule_of d) (Some [])
-
--- a rule, if each operator in it has as many arguments as it takes
-abbrev pub where_counts_fit : Rule → Option Rule
-where_counts_fit r = if well_formed r then Some r else None
-
-abbrev pub where_all_counts_fit : List Rule → Option (List Rule)
-where_all_counts_fit rs = if all_well_formed (rules_of rs) then Some rs else None
 
 -- why a value is no rule
 pub data Fault : Type 0 where
