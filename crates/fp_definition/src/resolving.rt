@@ -22,7 +22,7 @@ ghost use Rattle.fp_operators.specs.View.{view as datum_view};
 ghost use Rattle.fp_machine.specs.Meaning.{meaning};
 ghost use Rattle.fp_machine.specs.Means.{Means};
 ghost use Rattle.fp_machine.specs.Memory.{needs_memory};
-ghost use Rattle.fp_targeting.specs.RuleData.{IsOfContext, rule_data};
+ghost use Rattle.fp_targeting.specs.RuleData.{IsOfContext};
 
 use crate::definition::Definition;
 use crate::key::FlagKey;
@@ -187,32 +187,6 @@ impl Definition {
             return self.default_of(Reason::Static);
         };
         key.turn(data);
-        self.by_rule(alloc, rule, data)
-    }
-
-    /// As `resolve`, over data that are made for the flag already, whose key they have.
-    #[tactic(auto, unfolding(crate::specs::Outcome::outcome_of))]
-    pub fn resolve_over(&self, alloc: Global, data: &Data) -> Result<Resolved<'_>, EvalFault>
-        // Over data made of a key, a context and a moment: an outcome that the definition has for
-        // these (`Resolves`), or `Memory`.
-        ensures resolves { (key : List ℕ) (context : JsonData) (now : ℕ)
-            → «data».now ≡ rule_data context key now
-            → Answers spelled_by Tells result (Spells (Resolves (data_of self.now) key context now)) }
-        // Over these: the outcome that `outcome_of` computes, or `Memory`.
-        ensures computed { (key : List ℕ) (context : JsonData) (now : ℕ)
-            → «data».now ≡ rule_data context key now
-            → Gives spelled_by Tells result
-            (outcome_spelled (outcome_of (data_of self.now) key context now)) }
-        // `Memory`: a `cat`, a `sem_ver`, or a list that isn't all literals stands in the rule.
-        ensures memory { IfErr result (λ e. e ≡ Memory
-            → rule_needs_memory (rule_in (get (codes "targeting") (data_of self.now))) ≡ true) }
-    {
-        if self.is_disabled() {
-            return Err(EvalFault::Disabled);
-        }
-        let Some(rule) = self.rule() else {
-            return self.default_of(Reason::Static);
-        };
         self.by_rule(alloc, rule, data)
     }
 
