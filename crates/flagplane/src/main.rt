@@ -2,6 +2,7 @@
 #![tactic(auto)]
 
 use fp_commands::command;
+use fp_connections::hold_closed_streams;
 use fp_files::SystemFiles;
 use fp_log::{Reported, Source, Stamped};
 use fp_server::{Host, attend, moment};
@@ -60,6 +61,7 @@ where
 fn main(rt: HostRuntime) -> ExitCode {
     // A call whose bounds name sockets is only checked where these are named.
     let _sockets: Option<(TcpListener, TcpStream)> = None;
+    let _held = hold_closed_streams(&rt);
     // Words that aren't text name no command, just as if there were no words.
     let given = words(&rt);
     let words: &[String] = match &given {

@@ -1,6 +1,7 @@
 //! The program: its words, standard input, output and errors, and its status.
 #![tactic(auto)]
 
+use fp_connections::hold_closed_streams;
 use fp_log::{Reported, Source, Stamped};
 use fp_relay::{Host, SystemFiles, WordsFault, options_of, relay};
 use fp_streams::FailureCounted;
@@ -77,6 +78,7 @@ where
 fn main(rt: HostRuntime) -> ExitCode {
     // A call whose bounds name sockets is only checked where these are named.
     let _sockets: Option<(TcpListener, TcpStream)> = None;
+    let _held = hold_closed_streams(&rt);
     // Words that aren't text ask for nothing, just as if there were no words.
     let given = words(&rt);
     let mut texts = Vec::new(rt.alloc());

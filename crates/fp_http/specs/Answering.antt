@@ -1,9 +1,8 @@
 -- The response to what was asked, by the replies that may be given to it.
 use Rattle.std.specs.Prelude.{◌≡◌, ℕ, List, Option, Some, None, Result, Ok, Err, min, option_map}
 use Rattle.std.specs.Prelude.{string_bytes, length, ◌==◌, if◌then◌else◌}
+use Rattle.std.specs.Global.{Vec}
 use Rattle.http.specs.declared.response.Parts.{Parts}
-use Rattle.http_body_util.specs.Collected.{collected_bytes}
-use Rattle.http_body_util.specs.declared.collected.Collected.{Collected}
 use Rattle.http_body_util.specs.declared.limited.LimitedError.{LimitedError}
 use Rattle.http_body_util.specs.declared.limited.LimitedError.TheVariants as limited
 use Rattle.fp_ofrep.specs.Response as reply
@@ -22,11 +21,11 @@ MayReply replies asked body moment said =
     body (min moment LATEST) said
 
 -- what came is this body, or one that is too long
-abbrev pub WasCollected : {E : Type 0} → Result Collected (LimitedError E) → Option (List ℕ)
+abbrev pub WasGathered : {E : Type 0} → Result (Vec ℕ) (LimitedError E) → Option (List ℕ)
     → Type 0
-WasCollected (Ok whole) body = body ≡ Some (collected_bytes whole)
-WasCollected (Err limited.LengthLimit) body = body ≡ None
-WasCollected (Err (limited.Body cause)) body = ⊥
+WasGathered (Ok whole) body = body ≡ Some whole.items
+WasGathered (Err limited.LengthLimit) body = body ≡ None
+WasGathered (Err (limited.Body cause)) body = ⊥
 
 -- a head and a body are sent for a reply that may be given
 pub record Answers (replies : Replies) (asked : Asked) (body : Option (List ℕ)) (moment : ℕ)

@@ -1,4 +1,5 @@
 pub mod Numbers
 pub mod Responses
 pub mod Asking
+pub mod Gathering
 pub mod Answering

@@ -6,6 +6,7 @@ mod blocking;
 mod connection;
 mod evaluator;
 mod fault;
+mod gathering;
 mod limits;
 mod published;
 mod response;

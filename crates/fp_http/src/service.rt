@@ -1,22 +1,22 @@
 //! The service that hyper asks: a request's reply once its body came.
 
-ghost use Rattle.std.specs.Prelude.{◌<◌, ℕ, List, Option, IfOk, IfSome, IsSomeAnd};
+ghost use Rattle.std.specs.Prelude.{◌<◌, ℕ, List, Option, IfOk, IfSome, IsSomeAnd, option_map};
 ghost use Rattle.http.specs.Request.{head_of};
 ghost use Rattle.http.specs.Response as reply;
 ghost use Rattle.fp_ofrep.specs.Seen.{body_seen, response_seen};
 ghost use Rattle.fp_http.specs.Asking.{IsAsked};
-ghost use Rattle.fp_http.specs.Answering.{Answers as IsAnswer, MayReply, WasCollected};
+ghost use Rattle.fp_http.specs.Answering.{Answers as IsAnswer, MayReply, WasGathered};
 
 use crate::asked::Asked;
 use crate::evaluator::Evaluator;
 use crate::fault::NoReply;
+use crate::gathering::Gathering;
 use crate::response::response_of;
 use bytes::Bytes;
 use fp_ofrep::{Body, LONGEST_BODY, Reply};
 use futures::Future;
 use futures::task::{Context, Poll};
-use http_body_util::combinators::Collect;
-use http_body_util::{BodyExt, Collected, Full, Limited, LimitedError};
+use http_body_util::{Full, Limited, LimitedError};
 use hyper::body::Incoming;
 use hyper::service::Service;
 use hyper::{Request, Response};
@@ -53,7 +53,7 @@ impl<I: Drop, E: Evaluator, N: Fn() -> u64 + Drop> Service<Request<Incoming<I>>>
 
     type Error = NoReply;
 
-    type Future = Answering<Collect<Limited<Incoming<I>>>, E>;
+    type Future = Answering<Gathering<Limited<Incoming<I>>>, E>;
 
     ghost can_call = { λ s. N.IsAlwaysCallable s.now };
 
@@ -64,7 +64,7 @@ impl<I: Drop, E: Evaluator, N: Fn() -> u64 + Drop> Service<Request<Incoming<I>>>
         Answering {
             alloc: self.alloc,
             asked: Asked::of(self.alloc, &request).ok(),
-            body: Limited::new(request.into_body(), LONGEST_BODY).collect(self.alloc),
+            body: Gathering::new(self.alloc, Limited::new(request.into_body(), LONGEST_BODY)),
             evaluator: self.evaluator.clone().ok(),
             moment,
         }
@@ -73,7 +73,7 @@ impl<I: Drop, E: Evaluator, N: Fn() -> u64 + Drop> Service<Request<Incoming<I>>>
 
 impl<C, E> Future for Answering<C, E>
 where
-    C: Future<Output = Result<Collected, LimitedError<hyper::Error>>>,
+    C: Future<Output = Result<Vec<u8>, LimitedError<hyper::Error>>>,
     E: Evaluator,
 {
     type Output = Result<Response<Full<Bytes>>, NoReply>;
@@ -84,19 +84,19 @@ where
 
     // A response is that of a reply which may be given to what was asked and to the body that came.
     ghost gives = { λ f given. IfOk given (λ response. IsSomeAnd f.asked (λ asked.
-        (collected : _) × C.gives f.body collected × (body : Option (List ℕ))
-        × WasCollected collected body × IsAnswer E.replies asked body f.moment
+        (gathered : _) × C.gives f.body gathered × (body : Option (List ℕ))
+        × WasGathered gathered body × IsAnswer E.replies asked body f.moment
         (reply.head_of response) (reply.body_of response).buf)) };
 
     fn poll(&mut self, cx: &mut Context<'_>) -> Poll<Self::Output> {
-        let collected = match self.body.poll(cx) {
+        let gathered = match self.body.poll(cx) {
             Poll::Pending => return Poll::Pending,
-            Poll::Ready(collected) => collected,
+            Poll::Ready(gathered) => gathered,
         };
         Poll::Ready(answered(
             self.alloc,
             &self.asked,
-            collected,
+            gathered,
             &self.evaluator,
             self.moment,
         ))
@@ -105,12 +105,12 @@ where
 
 // The body, or none where it is too long.
 fn whole_body(
-    collected: Result<Collected, LimitedError<hyper::Error>>,
-) -> Result<Option<Bytes>, NoReply>
-    ensures { IfOk result (WasCollected collected) }
+    gathered: Result<Vec<u8>, LimitedError<hyper::Error>>,
+) -> Result<Option<Vec<u8>>, NoReply>
+    ensures { IfOk result (λ body. WasGathered gathered (option_map (λ v. v.items) body)) }
 {
-    match collected {
-        Ok(whole) => whole.to_bytes().map(Some).map_err(|_| NoReply),
+    match gathered {
+        Ok(whole) => Ok(Some(whole)),
         Err(LimitedError::LengthLimit) => Ok(None),
         Err(LimitedError::Body(_cause)) => Err(NoReply),
     }
@@ -120,15 +120,15 @@ fn whole_body(
 fn answered<E: Evaluator>(
     alloc: Global,
     asked: &Option<Asked>,
-    collected: Result<Collected, LimitedError<hyper::Error>>,
+    gathered: Result<Vec<u8>, LimitedError<hyper::Error>>,
     evaluator: &Option<Shared<E>>,
     moment: u64,
 ) -> Result<Response<Full<Bytes>>, NoReply>
     ensures { IfOk result (λ response. IsSomeAnd asked.now (λ asked. (body : Option (List ℕ))
-        × WasCollected collected body × IsAnswer E.replies asked body moment
+        × WasGathered gathered body × IsAnswer E.replies asked body moment
         (reply.head_of response) (reply.body_of response).buf)) }
 {
-    let body = whole_body(collected)?;
+    let body = whole_body(gathered)?;
     let (Some(asked), Some(evaluator)) = (asked, evaluator) else {
         return Err(NoReply);
     };
