@@ -1,13 +1,15 @@
-//! What programs with sockets share: the runtime that they ask for, probes of quiet peers, counts of
-//! connections, and standard streams that are closed.
+//! What programs with sockets share: the runtime that they ask for, probes of quiet peers, what peers
+//! take, counts of connections, and standard streams that are closed.
 #![tactic(auto)]
 
 mod counts;
 mod host;
 mod probing;
 mod standard;
+mod taking;
 
 pub use counts::{Counted, Counts, Role, Tally};
 pub use host::Host;
 pub use probing::probe_peers;
 pub use standard::hold_closed_streams;
+pub use taking::{end_untaken, has_taken_all};

@@ -23,7 +23,7 @@ pub fn probe_peers<S: AsRawFd>(socket: &S) {
 }
 
 // An option's value.
-fn number(value: i32) -> [u8; 16] {
+pub(crate) fn number(value: i32) -> [u8; 16] {
     let mut bytes = [0; 16];
     bytes[..4].copy_from_slice(&value.to_ne_bytes());
     bytes

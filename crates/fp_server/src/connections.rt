@@ -1,6 +1,7 @@
 //! The connections of one listener that are open.
 
 use std::alloc::{AllocError, Global};
+use std::io;
 use std::net::{Shutdown, TcpStream};
 use std::sync::{Arc, Condvar, CondvarTimeouts, Mutex, Wait};
 use std::time::{Clock, Duration};
@@ -27,14 +28,16 @@ impl Streams {
 
     // Keeps a handle of the stream in a free place. `None` where there is none, or no
     // stream is let in any more.
-    fn admit(&mut self, stream: &TcpStream) -> Option<usize> {
+    fn admit(&mut self, stream: &TcpStream) -> io::Result<Option<usize>> {
         if self.is_closed {
-            return None;
+            return Ok(None);
         }
-        let at = self.places.iter().position(|place| place.is_none())?;
-        let kept = stream.try_clone().ok()?;
+        let Some(at) = self.places.iter().position(|place| place.is_none()) else {
+            return Ok(None);
+        };
+        let kept = stream.try_clone()?;
         self.put(at, Some(kept));
-        Some(at)
+        Ok(Some(at))
     }
 
     fn put(&mut self, at: usize, stream: Option<TcpStream>) {
@@ -95,24 +98,24 @@ impl<R: Wait + Clock + Drop> Connections<R> {
     }
 
     /// A place for this stream, until the place is let go of. `None` where all are taken, or no
-    /// stream is let in any more.
-    pub fn admit(&self, stream: &TcpStream) -> Option<Place<R>> {
-        let connections = self.try_copy().ok()?;
+    /// stream is let in any more. A place takes a descriptor, which may be wanting.
+    pub fn admit(&self, stream: &TcpStream) -> io::Result<Option<Place<R>>> {
+        let connections = self.try_copy()?;
         let at = self.shared.streams.lock(&self.shared.rt).admit(stream)?;
-        Some(Place { connections, at })
+        Ok(at.map(|at| Place { connections, at }))
     }
 
     /// A place as `admit` gives one, which is waited for while all are taken, for no longer than
     /// this.
-    pub fn admit_within(&self, stream: &TcpStream, most: Duration) -> Option<Place<R>> {
-        let connections = self.try_copy().ok()?;
+    pub fn admit_within(&self, stream: &TcpStream, most: Duration) -> io::Result<Option<Place<R>>> {
+        let connections = self.try_copy()?;
         let shared = &self.shared;
         let streams = shared.streams.lock(&shared.rt);
         let (mut streams, _waited) = shared
             .left
             .wait_timeout_while(&shared.rt, streams, most, |streams| streams.is_full());
         let at = streams.admit(stream)?;
-        Some(Place { connections, at })
+        Ok(at.map(|at| Place { connections, at }))
     }
 
     /// Lets no stream in any more, and ends reads or writes that wait on those that are open.
@@ -140,6 +143,13 @@ impl<R: Wait + Clock + Drop> Connections<R> {
 pub struct Place<R: Wait + Clock + Drop> {
     connections: Connections<R>,
     at: usize,
+}
+
+impl<R: Wait + Clock + Drop> Place<R> {
+    /// Whether no more of its stream is read, as at a stop.
+    pub fn is_closed(&self) -> bool {
+        self.connections.is_closed()
+    }
 }
 
 impl<R: Wait + Clock + Drop> Drop for Place<R> {

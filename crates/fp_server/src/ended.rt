@@ -10,7 +10,7 @@ use std::net::SocketAddr;
 /// Why a connection ended.
 #[derive(Debug, Drop, Clone, Copy, PartialEq, Eq)]
 pub enum Ended {
-    /// The peer ended it, or the service did as it stopped.
+    /// The peer ended it, or the service did, behind a last reply or as it stopped.
     ByPeer,
     /// It said nothing between two requests, for too long.
     Idle,
@@ -52,10 +52,16 @@ impl Ended {
             Ended::NoPlace => Cause::NoPlace,
             Ended::Fault(_) => Cause::Fault,
         };
-        let event = Event::ConnectionEnded { port, peer, cause };
         match self {
-            Ended::Fault(kind) => tell_failure(rt, &event, &io::Error::from(kind)),
-            _ => tell(rt, &event),
+            Ended::Fault(kind) => tell_fault(rt, port, peer, &io::Error::from(kind)),
+            _ => tell(rt, &Event::ConnectionEnded { port, peer, cause }),
         }
     }
+}
+
+/// Tells that a connection of this port ended by a fault: its stream's, or that something was wanting
+/// for it.
+pub fn tell_fault<R: Log>(rt: &R, port: Port, peer: SocketAddr, reason: &io::Error) {
+    let cause = Cause::Fault;
+    tell_failure(rt, &Event::ConnectionEnded { port, peer, cause }, reason);
 }

@@ -5,6 +5,7 @@ mod attending;
 mod connections;
 mod ended;
 mod evaluations;
+mod lingering;
 mod listening;
 mod noted;
 mod roles;

@@ -3,14 +3,14 @@
 ghost use Rattle.std.specs.Prelude.{◌≡◌};
 
 use crate::connections::{Connections, Place};
-use crate::ended::Ended;
+use crate::ended::{Ended, tell_fault};
+use crate::lingering::linger;
 use crate::roles::{Role, converse};
 use fp_connections::{Host, probe_peers};
 use fp_disk::Disk;
 use fp_http::TimeLimits;
-use fp_log::{Event, Port, tell, tell_failure};
+use fp_log::{Event, Port, Source, tell, tell_failure};
 use fp_plane::{Naming, SealingPlane};
-use std::alloc::AllocError;
 use std::net::{IpAddr, Ipv4Addr, Shutdown, SocketAddr, SocketAddrV4, TcpListener, TcpStream};
 use std::time::Duration;
 use std::{io, thread};
@@ -138,6 +138,7 @@ where
     D: Disk + Drop + Send + 'static,
     R: Host,
 {
+    let mut is_told = false;
     for _ in rt.forever() {
         let accepted = listener.accept();
         if connections.is_closed() {
@@ -145,12 +146,26 @@ where
         }
         match accepted {
             Ok((stream, peer)) => {
-                let _ = begin(rt, stream, peer, role, limits, connections, plane);
+                is_told = false;
+                if let Err(reason) = begin(rt, stream, peer, role, limits, connections, plane) {
+                    tell_fault(rt, role.port(), peer, &reason);
+                }
             }
-            // What is wanting may be there again soon.
-            Err(_) => thread::sleep(rt, Duration::from_millis(10)),
+            Err(reason) => {
+                if !is_told {
+                    tell_not_accepted(rt, &reason);
+                }
+                is_told = true;
+                // What is wanting may be there again soon.
+                thread::sleep(rt, Duration::from_millis(10));
+            }
         }
     }
+}
+
+fn tell_not_accepted<R: Host>(rt: &R, reason: &io::Error) {
+    let (call, source) = ("accept", Source::Connection);
+    tell_failure(rt, &Event::CallFailed { call, source }, reason);
 }
 
 // How many milliseconds a connection waits for a place, where all are taken: for one whose peer has
@@ -163,14 +178,14 @@ fn place_for<K, D, R>(
     role: Role,
     connections: &Connections<R>,
     plane: &SealingPlane<K, D, R>,
-) -> Option<Place<R>>
+) -> io::Result<Option<Place<R>>>
 where
     K: Naming,
     D: Disk + Drop,
     R: Host,
 {
-    if let Some(place) = connections.admit(stream) {
-        return Some(place);
+    if let Some(place) = connections.admit(stream)? {
+        return Ok(Some(place));
     }
     if role == Role::Snapshots {
         plane.plane().look_who_left();
@@ -178,7 +193,8 @@ where
     connections.admit_within(stream, Duration::from_millis(PATIENCE))
 }
 
-// Serves a connection in a thread of its own. Where there is no place for it, it is closed.
+// Serves a connection in a thread of its own. Where there is no place for it, it is closed, and where
+// memory, a descriptor or a thread is wanting.
 fn begin<K, D, R>(
     rt: &R,
     stream: TcpStream,
@@ -187,14 +203,14 @@ fn begin<K, D, R>(
     limits: TimeLimits,
     connections: &Connections<R>,
     plane: &SealingPlane<K, D, R>,
-) -> Result<(), AllocError>
+) -> io::Result<()>
 where
     K: Naming + Send + Sync + 'static,
     D: Disk + Drop + Send + 'static,
     R: Host,
 {
     let port = role.port();
-    let Some(place) = place_for(&stream, role, connections, plane) else {
+    let Some(place) = place_for(&stream, role, connections, plane)? else {
         drop(stream);
         Ended::NoPlace.tell(rt, port, peer);
         return Ok(());
@@ -202,10 +218,14 @@ where
     let plane = plane.try_copy()?;
     let own = *rt;
     let started = thread::spawn(rt, move || {
-        let ended = converse(&own, role, limits, &plane, stream);
+        let ended = converse(&own, role, limits, &plane, &stream);
+        if ended == Ended::ByPeer || place.is_closed() {
+            linger(&own, &stream, &place);
+        }
+        drop(stream);
         drop(place);
         ended.tell(&own, port, peer);
     });
-    if let Ok(_handle) = started {}
+    started?;
     Ok(())
 }

@@ -1,10 +1,12 @@
 //! A connection's stream that keeps why it failed last.
 
 use crate::ended::Ended;
+use fp_http::Patient;
 use fp_streams::WriteGathered;
 use std::io;
 use std::io::{ErrorKind, IoSlice, Read, Write};
 use std::net::TcpStream;
+use std::time::Duration;
 
 /// One side of a stream, and why it failed last.
 #[derive(Drop)]
@@ -29,7 +31,8 @@ impl Noted<'_> {
 
     fn note_of_writer(&mut self, fault: &io::Error) {
         self.ended = Some(match fault.kind() {
-            ErrorKind::WouldBlock => Ended::SlowReply,
+            // By the stream's own limit, or by the system's on what isn't taken.
+            ErrorKind::WouldBlock | ErrorKind::TimedOut => Ended::SlowReply,
             kind => Ended::Fault(kind),
         });
     }
@@ -62,6 +65,12 @@ impl Write for Noted<'_> {
 
     fn flush(&mut self) -> io::Result<()> {
         Ok(())
+    }
+}
+
+impl Patient for Noted<'_> {
+    fn set_patience(&self, most: Duration) -> io::Result<()> {
+        self.stream.set_read_timeout(Some(most))
     }
 }
 

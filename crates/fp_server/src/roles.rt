@@ -4,7 +4,7 @@ use crate::ended::Ended;
 use crate::evaluations::{LentEvaluator, LoanFault};
 use crate::noted::Noted;
 use crate::serving::moment;
-use fp_connections::Host;
+use fp_connections::{Host, end_untaken};
 use fp_conversations::{EditorEnd, SubscriberFault, editor_loop, subscriber_loop};
 use fp_disk::Disk;
 use fp_http::{Blocking, Note, TimeLimits, serve_ofrep};
@@ -60,7 +60,7 @@ pub fn converse<K, D, R>(
     role: Role,
     limits: TimeLimits,
     plane: &SealingPlane<K, D, R>,
-    stream: TcpStream,
+    stream: &TcpStream,
 ) -> Ended
 where
     K: Naming,
@@ -70,10 +70,11 @@ where
     // A reply is small, and waits for nothing behind it.
     let _ = stream.set_nodelay(true);
     let _ = stream.set_write_timeout(Some(limits.reply));
+    end_untaken(stream, limits.reply);
     match role {
         Role::Evaluations => evaluate(rt, limits, plane.plane(), stream),
-        Role::Edits => edit(rt, plane, &stream),
-        Role::Snapshots => subscribe(plane.plane(), &stream),
+        Role::Edits => edit(rt, plane, stream),
+        Role::Snapshots => subscribe(plane.plane(), stream),
     }
 }
 
@@ -84,7 +85,7 @@ fn notes(alloc: Global) -> Result<(Note, Note), AllocError> {
     Ok((note, kept))
 }
 
-fn evaluate<K, R>(rt: &R, limits: TimeLimits, plane: &Plane<K, R>, stream: TcpStream) -> Ended
+fn evaluate<K, R>(rt: &R, limits: TimeLimits, plane: &Plane<K, R>, stream: &TcpStream) -> Ended
 where
     K: Naming,
     R: Host,
@@ -98,7 +99,7 @@ where
         return Ended::Fault(ErrorKind::OutOfMemory);
     };
     let clock = *rt;
-    let connection = Blocking::new(stream, clock, limits, note);
+    let connection = Blocking::new(Noted::new(stream), clock, limits, note);
     let served = serve_ofrep(rt, connection, evaluator, move || moment(&clock));
     match (kept.get(), served) {
         (Some(stop), _) => stop.into(),
@@ -184,12 +185,22 @@ fn of_streams(written: Option<Ended>, read: Option<Ended>) -> Ended {
     written.or(read).unwrap_or(Ended::Fault(ErrorKind::Other))
 }
 
-// Whether the peer ended the stream. What it says behind its hello is no end.
+// How much of what a subscriber says behind its hello is dropped at each look: so many reads of 4 KB.
+const DROPPED_READS: usize = 16;
+
+// Whether the peer ended the stream. What it says behind its hello is no end, and is dropped.
 fn has_left(stream: &TcpStream) -> bool {
-    let mut byte = [0; 1];
+    let mut stream = stream;
+    let mut bytes = [0; 4096];
     let _ = stream.set_read_timeout(Some(Duration::from_millis(1)));
-    match stream.peek(&mut byte) {
-        Ok(count) => count == 0,
-        Err(fault) => !matches!(fault.kind(), ErrorKind::WouldBlock | ErrorKind::Interrupted),
+    for _ in 0..DROPPED_READS {
+        match stream.read(&mut bytes) {
+            Ok(0) => return true,
+            Ok(_) => {}
+            Err(fault) => {
+                return !matches!(fault.kind(), ErrorKind::WouldBlock | ErrorKind::Interrupted);
+            }
+        }
     }
+    false
 }
