@@ -9,6 +9,7 @@ mod member;
 mod news;
 mod outgoing;
 mod peer;
+mod refusal;
 mod socket;
 mod starting;
 mod subscriber;

@@ -3,8 +3,10 @@
 use crate::inbox::Loops;
 use crate::news::News;
 use fp_connections::{Counts, Role, probe_peers};
+use libc::net as c;
 use std::alloc::Global;
-use std::net::{IpAddr, Ipv4Addr, Net, SocketAddr, SocketAddrV4, TcpListener, TcpStream};
+use std::net::{Net, SocketAddr, SocketAddrV4, TcpListener, TcpStream};
+use std::os::fd::AsRawFd;
 use std::sync::atomic::{AtomicBool, Ordering};
 use std::sync::{Arc, Wait};
 use std::time::{Clock, Duration};
@@ -75,13 +77,11 @@ impl Listening {
     }
 
     /// Lets no connection in any more, and has `accept` return.
-    pub fn close<R>(&self, rt: &R)
-    where
-        R: Net<Listener = TcpListener, Stream = TcpStream>,
-    {
+    pub fn close(&self) {
         self.is_closed.store(true, Ordering::SeqCst);
-        // The thread that accepts wakes by one more.
-        let _ = TcpStream::connect(rt, reached(self.bound));
+        // `accept` fails by this, where it waits too. It takes no descriptor, of which there may be
+        // none left.
+        let _ = c::shutdown(self.listener.as_raw_fd(), c::SHUT_RDWR);
     }
 }
 
@@ -105,15 +105,5 @@ impl<N: News + Drop> Door<N> {
         {
             self.counts.left(self.role);
         }
-    }
-}
-
-// Where what is bound to all of this machine's addresses is reached.
-fn reached(bound: SocketAddr) -> SocketAddr {
-    match bound.ip() {
-        IpAddr::V4(ip) if ip.is_unspecified() => {
-            SocketAddr::new(IpAddr::V4(Ipv4Addr::LOCALHOST), bound.port())
-        }
-        _ => bound,
     }
 }

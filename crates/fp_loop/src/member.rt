@@ -59,6 +59,14 @@ impl<N: News + Drop> Member<N> {
         }
     }
 
+    /// The status with which a request was refused, if one was since the last time.
+    pub(crate) fn take_refusal(&mut self) -> Option<u16> {
+        match &mut self.kind {
+            Kind::Requests(peer) => peer.take_refusal(),
+            Kind::Frames(_) => None,
+        }
+    }
+
     /// Whether it has kept the loop waiting for too long.
     pub(crate) fn is_over_time(&self, limits: &Limits, now: u64) -> bool {
         match &self.kind {
@@ -72,12 +80,13 @@ impl<N: News + Drop> Member<N> {
         &mut self,
         beginning: &Beginning,
         service: &mut Counting<S>,
+        limits: &Limits,
         now: u64,
     ) -> bool
         ensures { Serves S.answers service.old.service service.new.service }
     {
         match &mut self.kind {
-            Kind::Requests(peer) => peer.shrink(beginning, service, now),
+            Kind::Requests(peer) => peer.shrink(beginning, service, limits, now),
             Kind::Frames(_) => true,
         }
     }

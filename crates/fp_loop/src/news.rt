@@ -39,6 +39,10 @@ pub trait Informed<N>: Service {
         // These news lead from the state before to the state after, by `informs`; where that is
         // left out, nothing is said.
         ensures { Self.informs self.old (arc_value news) self.new };
+
+    /// A request was refused with this status, and the service not asked: its head or its body was
+    /// broken or too long.
+    fn refused(&self, _status: u16) {}
 }
 
 /// The newest news that came, if any came.

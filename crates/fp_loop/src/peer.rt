@@ -8,6 +8,7 @@ ghost use Rattle.fp_loop.specs.Peers.{CanDoNothing, config_of, history_of, Quiet
 ghost use Rattle.fp_loop.specs.Talks.{Serves, Talks};
 
 use crate::counting::Counting;
+use crate::refusal::status_of;
 use crate::socket::{Socket, is_passing};
 use crate::talk::{Beginning, hear, is_at_rest, say};
 use crate::times::{Limits, Waiting, is_over_time};
@@ -36,8 +37,12 @@ pub(crate) struct Peer {
     since: u64,
     // When some of a request came that isn't whole yet.
     begun: Option<u64>,
-    // The most bytes that came or waited at once.
+    // How many bytes of it came, but for those that came with the end of another.
+    came: usize,
+    // The most bytes that came for a request or waited at once.
     most: usize,
+    // The status of a refusal, until it is counted.
+    refused: Option<u16>,
 }
 
 impl Peer {
@@ -48,7 +53,9 @@ impl Peer {
             waiting: Waiting::Request,
             since: now,
             begun: None,
+            came: 0,
             most: 0,
+            refused: None,
         }
     }
 
@@ -98,8 +105,10 @@ impl Peer {
         ensures config { config_of self.new ≡ config_of self.old }
     {
         self.most = self.most.max(self.connection.output().len());
+        let calls = service.calls;
         let turn = say(&mut self.connection, service, &mut self.socket);
         if turn == Turn::Goes {
+            self.finish_if(service.calls != calls, now);
             self.wait(Waiting::Request, now);
         }
         turn
@@ -111,25 +120,43 @@ impl Peer {
             service.old.service service.new.service (history_of self.old) (history_of self.new) }
         ensures config { config_of self.new ≡ config_of self.old }
     {
+        // By parts where memory may be let go of soon: behind what was long, and at the beginning.
+        self.socket.part(self.most == 0 || self.most > KEPT);
         let calls = service.calls;
-        match hear(&mut self.connection, service, &mut self.socket) {
-            Ok(count) => self.most = self.most.max(count),
+        let count = match hear(&mut self.connection, service, &mut self.socket) {
+            Ok(count) => count,
             Err(turn) => return turn,
-        }
-        self.begin(service.calls != calls, now);
+        };
+        self.begin(count, now);
+        self.finish_if(service.calls != calls, now);
         self.wait(self.waiting, now);
         Turn::Goes
     }
 
-    // Some of a request came, by which it was answered, or which isn't all of it.
-    fn begin(&mut self, is_answered: bool, now: u64)
+    // So many bytes of a request came.
+    fn begin(&mut self, count: usize, now: u64)
         ensures { self.new.connection ≡ self.old.connection }
     {
-        if is_answered {
-            self.begun = None;
-        } else if self.begun.is_none() {
+        self.came = self.came.saturating_add(count);
+        self.most = self.most.max(self.came);
+        if self.begun.is_none() {
             self.begun = Some(now);
         }
+    }
+
+    // Where a request was answered, the next one has begun if something is known to be behind it.
+    fn finish_if(&mut self, is_answered: bool, now: u64)
+        ensures { self.new.connection ≡ self.old.connection }
+    {
+        if !is_answered {
+            return;
+        }
+        self.came = 0;
+        self.begun = if self.socket.is_given() {
+            None
+        } else {
+            Some(now)
+        };
     }
 
     // What it waits for now: that its peer takes what waits to be sent, since it last took some;
@@ -158,13 +185,21 @@ impl Peer {
         ensures { self.new.connection ≡ self.old.connection }
     {
         match self.connection.state() {
-            State::Closing(Reason::Asked | Reason::Refused(_)) => {
+            State::Closing(reason @ (Reason::Asked | Reason::Refused(_))) => {
+                if let Reason::Refused(refusal) = reason {
+                    self.refused = Some(status_of(refusal));
+                }
                 self.waiting = Waiting::Leaving;
                 self.since = now;
                 self.socket.stream.shutdown(Shutdown::Write).is_ok()
             }
             _ => false,
         }
+    }
+
+    /// The status with which a request was refused, if one was since the last time.
+    pub(crate) fn take_refusal(&mut self) -> Option<u16> {
+        self.refused.take()
     }
 
     // Reads what the peer still says, and drops it, until it leaves.
@@ -198,13 +233,20 @@ impl Peer {
         &mut self,
         beginning: &Beginning,
         service: &mut Counting<S>,
+        limits: &Limits,
         now: u64,
     ) -> bool
         ensures serves { Serves S.answers service.old.service service.new.service }
         ensures quiets { IsTrue result → Quiets S.answers service.old.service service.new.service
             self.old self.new }
     {
-        let is_quiet = self.waiting == Waiting::Request && now.saturating_sub(self.since) >= QUIET;
+        // A request may have begun where what came wasn't read by parts: it has its time.
+        let quiet = if self.socket.parts {
+            QUIET
+        } else {
+            limits.request
+        };
+        let is_quiet = self.waiting == Waiting::Request && now.saturating_sub(self.since) >= quiet;
         if !is_quiet || self.most <= KEPT {
             return true;
         }

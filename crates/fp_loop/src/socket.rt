@@ -1,6 +1,6 @@
 //! A socket that doesn't wait, with what is known of its readiness.
 
-ghost use Rattle.std.specs.Prelude.{◌++◌};
+ghost use Rattle.std.specs.Prelude.{◌++◌, ◌≤◌, length};
 ghost use Rattle.std.specs.Io.{WritesAtMost};
 
 use mio::net::TcpStream;
@@ -14,8 +14,15 @@ pub(crate) struct Socket {
     pub(crate) stream: TcpStream,
     pub(crate) may_read: bool,
     pub(crate) may_write: bool,
+    /// Whether what comes is read by parts, the last byte by itself: a request that is whole by that
+    /// has nothing behind it.
+    pub(crate) parts: bool,
     // Whether the peer has ended its side, or it has failed: then a short read isn't the last.
     ends: bool,
+    // The last byte that came, until it is given.
+    last: Option<u8>,
+    // Whether a read may go on behind it.
+    may_follow: bool,
 }
 
 impl Socket {
@@ -25,15 +32,60 @@ impl Socket {
             stream,
             may_read: false,
             may_write: true,
+            parts: false,
             ends: false,
+            last: None,
+            may_follow: false,
         }
     }
 
     /// What an event tells.
     pub(crate) fn mark(&mut self, reads: bool, writes: bool, ends: bool) {
         self.may_read = self.may_read || reads || ends;
+        self.may_follow = self.may_follow || reads || ends;
         self.may_write = self.may_write || writes;
         self.ends = self.ends || ends;
+    }
+
+    /// Has what comes from now on be read by parts, or as a whole.
+    pub(crate) fn part(&mut self, parts: bool) {
+        if self.last.is_none() {
+            self.parts = parts;
+        }
+    }
+
+    /// Whether all that came was given.
+    pub(crate) fn is_given(&self) -> bool {
+        self.last.is_none()
+    }
+
+    // Of what came gives all, or all but the last byte, which is kept; one byte alone is given.
+    fn keep_last(&mut self, came: &[u8]) -> usize
+        ensures { result ≤ length came.now }
+    {
+        let [_, .., last] = came else {
+            return came.len();
+        };
+        if !self.parts {
+            return came.len();
+        }
+        self.last = Some(*last);
+        self.may_follow = self.may_read;
+        self.may_read = true;
+        came.len() - 1
+    }
+
+    // Gives the byte that was kept.
+    fn give_last(&mut self, last: u8, buf: &mut [u8]) -> usize
+        ensures { result ≤ length buf.old }
+    {
+        let Some(first) = buf.first_mut() else {
+            return 0;
+        };
+        *first = last;
+        self.last = None;
+        self.may_read = self.may_follow;
+        1
     }
 
     /// Writes both, one behind the other, by one call. It may stop anywhere.
@@ -56,11 +108,14 @@ impl Socket {
 
 impl Read for Socket {
     fn read(&mut self, buf: &mut [u8]) -> io::Result<usize> {
+        if let Some(last) = self.last {
+            return Ok(self.give_last(last, buf));
+        }
         match self.stream.read(buf) {
             // Less than there was room for is all that there is.
             Ok(count) => {
                 self.may_read = self.ends || count == buf.len();
-                Ok(count)
+                Ok(self.keep_last(&buf[..count]))
             }
             Err(fault) => {
                 self.may_read = fault.kind() == ErrorKind::Interrupted;

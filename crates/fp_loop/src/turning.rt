@@ -36,6 +36,9 @@ const SWEEP: u64 = 1000;
 /// The longest body of a request, in bytes. A longer one is refused.
 pub const MOST_REQUEST: usize = 65_536;
 
+// The longest head of a request, in bytes. A longer one is refused.
+const MOST_HEAD: usize = 65_536;
+
 // Where more bytes than this wait to be sent, no further request is answered.
 const MOST_PENDING: usize = 4096;
 
@@ -78,7 +81,10 @@ where
         let poll = Poll::new(rt)?;
         let waker = Waker::new(poll.registry(), Token(WAKE))?;
         let config = Config {
-            limits: HeadLimits::default(),
+            limits: HeadLimits {
+                max_head_len: MOST_HEAD,
+                ..HeadLimits::default()
+            },
             max_body_len: MOST_REQUEST,
             max_pending: MOST_PENDING,
             read_size: READ_SIZE,
@@ -277,7 +283,19 @@ where
         };
         let turn = member.turn(&mut self.service, &self.shown, now);
         member.is_queued = turn == Turn::Goes;
+        let refusal = member.take_refusal();
+        self.count_refusal(refusal);
         turn
+    }
+
+    // Counts a request that was refused with this status.
+    fn count_refusal(&mut self, refusal: Option<u16>)
+        ensures { KeepsOn self.old self.new }
+    {
+        if let Some(status) = refusal {
+            self.service.tally.answered(status);
+            self.service.service.refused(status);
+        }
     }
 
     fn remove(&mut self, key: usize)
@@ -377,7 +395,7 @@ where
             return true;
         };
         !member.is_over_time(&self.limits, now)
-            && member.shrink(&self.beginning, &mut self.service, now)
+            && member.shrink(&self.beginning, &mut self.service, &self.limits, now)
     }
 
     // Adds what happened to what is counted.

@@ -2,6 +2,7 @@
 #![tactic(auto)]
 
 mod backoff;
+mod connecting;
 mod events;
 mod following;
 mod numbers;

@@ -47,7 +47,7 @@ impl AnsweredCounts {
         }
     }
 
-    // One more of this status; no other is answered with.
+    // One more of this status, if it is shown: of the others a request is refused alone.
     fn count(&self, status: u16) {
         let count = match status {
             200 => &self.ok,
@@ -57,7 +57,8 @@ impl AnsweredCounts {
             404 => &self.not_found,
             405 => &self.not_allowed,
             413 => &self.too_long,
-            _ => &self.unavailable,
+            503 => &self.unavailable,
+            _ => return,
         };
         count.fetch_add(1, Ordering::SeqCst);
     }

@@ -45,10 +45,10 @@ impl Ports {
     }
 
     /// Lets nobody in any more.
-    pub fn close<R: Host>(&self, rt: &R) {
-        self.ofrep.close(rt);
+    pub fn close(&self) {
+        self.ofrep.close();
         for port in self.stream.iter().chain(self.status.iter()) {
-            port.close(rt);
+            port.close();
         }
     }
 }

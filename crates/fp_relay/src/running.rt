@@ -53,7 +53,7 @@ impl From<StreamFault> for RelayFault {
 }
 
 /// Relays what the source shows, as the options say, until the input ends: first it says where its
-/// ports are. Its threads end before it returns, but one that still connects to the source.
+/// ports are. Its threads end before it returns.
 pub fn relay<R, K, I, O>(
     rt: &R,
     files: K,

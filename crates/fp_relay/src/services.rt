@@ -75,6 +75,10 @@ impl<R: Clock + Drop> Informed<Set> for Evaluations<R> {
     {
         self.set = Some(news);
     }
+
+    fn refused(&self, status: u16) {
+        self.numbers.answer(status);
+    }
 }
 
 /// What an operator reads.

@@ -19,7 +19,6 @@ use std::alloc::Global;
 use std::net::SocketAddrV4;
 use std::sync::Arc;
 use std::thread::JoinHandle;
-use std::time::Duration;
 use std::{io, thread};
 
 // The most loops, each of which has a thread.
@@ -30,9 +29,6 @@ const MOST_SUBSCRIBERS: u64 = 4_096;
 
 // The most connections of operators at once.
 const MOST_OPERATORS: u64 = 64;
-
-// How many seconds a connect to the source is waited for at the end.
-const LAST_CONNECT: u64 = 5;
 
 // How long a connection may keep a loop waiting, in milliseconds.
 const LIMITS: Limits = Limits {
@@ -88,11 +84,11 @@ impl Relaying {
 
     /// Ends them, and waits until they have. What was shown is kept.
     pub fn end<R: Host>(self, rt: &R, ports: &Ports) {
-        ports.close(rt);
+        ports.close();
         self.loops.stop(rt);
         self.status.stop(rt);
-        let can_join = self.uplink.end(rt, Duration::from_secs(LAST_CONNECT));
-        join_if(rt, self.following, can_join);
+        self.uplink.end(rt);
+        join(rt, self.following);
         self.shelf.close(rt);
         for thread in self.threads {
             thread.join(rt);
@@ -223,11 +219,7 @@ impl Relaying {
     }
 }
 
-// Joins a thread that can be; the end of the program cuts off any other.
-fn join_if<R: Host>(rt: &R, thread: Option<JoinHandle<()>>, can_join: bool) {
-    if !can_join {
-        return;
-    }
+fn join<R: Host>(rt: &R, thread: Option<JoinHandle<()>>) {
     if let Some(thread) = thread {
         thread.join(rt);
     }

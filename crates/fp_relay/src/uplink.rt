@@ -1,18 +1,21 @@
 //! The connection to the source, as one thread follows it and another one ends that.
 
+use crate::connecting::connect_within;
 use fp_connections::Host;
 use std::io;
-use std::io::ErrorKind;
+use std::io::{ErrorKind, Write};
 use std::net::{Shutdown, SocketAddrV4, TcpStream};
 use std::sync::{Condvar, CondvarTimeouts, Mutex, Wait};
 use std::time::Duration;
+
+// How many seconds a connect may take.
+const CONNECT: u64 = 5;
 
 // What the thread that follows is at.
 #[derive(Drop)]
 struct Standing {
     // A handle of the connection that stands.
     stream: Option<TcpStream>,
-    is_connecting: bool,
     is_ended: bool,
 }
 
@@ -29,7 +32,6 @@ impl Uplink {
         Uplink {
             standing: Mutex::new(Standing {
                 stream: None,
-                is_connecting: false,
                 is_ended: false,
             }),
             changed: Condvar::new(),
@@ -38,17 +40,11 @@ impl Uplink {
 
     /// A connection to this address, whose reads end where this is ended. A fault where it was.
     pub fn connect<R: Host>(&self, rt: &R, address: SocketAddrV4) -> io::Result<TcpStream> {
-        if !self.begin(rt) {
+        if self.is_ended(rt) {
             return Err(io::Error::from(ErrorKind::ConnectionAborted));
         }
-        let (stream, kept) = match connect_twice(rt, address) {
-            Ok(both) => both,
-            Err(reason) => {
-                self.settle(rt, None);
-                return Err(reason);
-            }
-        };
-        self.settle(rt, Some(kept));
+        let (stream, kept) = connect_twice(rt, address)?;
+        self.standing.lock(rt).stand(kept);
         Ok(stream)
     }
 
@@ -71,36 +67,17 @@ impl Uplink {
         standing.is_ended
     }
 
-    /// Ends it: reads and waits end, and nothing is connected any more. Nothing ends a connect that
-    /// is under way; whether none is, at the latest when so much time has passed.
-    pub fn end<R: Host>(&self, rt: &R, most: Duration) -> bool {
+    /// Ends it: reads and waits end, and nothing is connected any more. A connect that is under way
+    /// takes the time that it may.
+    pub fn end<R: Wait>(&self, rt: &R) {
         self.standing.lock(rt).end();
-        self.changed.notify_all();
-        let standing = self.standing.lock(rt);
-        let (standing, _waited) = self
-            .changed
-            .wait_timeout_while(rt, standing, most, |standing| standing.is_connecting);
-        !standing.is_connecting
-    }
-
-    // Whether a connect may begin, which is under way then.
-    fn begin<R: Wait>(&self, rt: &R) -> bool {
-        let mut standing = self.standing.lock(rt);
-        standing.is_connecting = !standing.is_ended;
-        standing.is_connecting
-    }
-
-    // The connect is over, and this came of it.
-    fn settle<R: Wait>(&self, rt: &R, stream: Option<TcpStream>) {
-        self.standing.lock(rt).settle(stream);
         self.changed.notify_all();
     }
 }
 
 impl Standing {
-    fn settle(&mut self, stream: Option<TcpStream>) {
-        self.stream = stream;
-        self.is_connecting = false;
+    fn stand(&mut self, stream: TcpStream) {
+        self.stream = Some(stream);
         if self.is_ended {
             self.cut();
         }
@@ -119,9 +96,16 @@ impl Standing {
     }
 }
 
-// A connection, and a second handle of it.
+// A connection, and a second handle of it. One that reached itself, as at a port of this machine
+// where nobody listens, is none.
 fn connect_twice<R: Host>(rt: &R, address: SocketAddrV4) -> io::Result<(TcpStream, TcpStream)> {
-    let stream = TcpStream::connect(rt, address)?;
+    let most = Duration::from_secs(CONNECT);
+    let stream = connect_within(rt, address, most)?;
+    if stream.local_addr()? == stream.peer_addr()? {
+        // It ends at once by a byte that isn't read; else the port would be taken for a minute.
+        let _ = (&stream).write(&[0]);
+        return Err(io::Error::from(ErrorKind::ConnectionRefused));
+    }
     let kept = stream.try_clone()?;
     Ok((stream, kept))
 }
