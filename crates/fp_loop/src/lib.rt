@@ -22,5 +22,6 @@ pub use inbox::{Inbox, Loops};
 pub use listening::{Door, Listening};
 pub use news::{Informed, News};
 pub use outgoing::Outgoing;
+pub use talk::MOST_REQUEST;
 pub use times::{Limits, Waiting, is_over_time};
-pub use turning::{Loop, MOST_REQUEST};
+pub use turning::Loop;

@@ -9,9 +9,22 @@ use crate::counting::Counting;
 use crate::socket::is_passing;
 use crate::turn::Turn;
 use http_server::{Config, Connection, Reason, Service, State};
+use http1::Limits as HeadLimits;
 use std::alloc::Global;
 use std::hash::RandomState;
 use std::io::{Read, Write};
+
+/// The longest body of a request, in bytes. A longer one is refused.
+pub const MOST_REQUEST: usize = 65_536;
+
+// The longest head of a request, in bytes. A longer one is refused.
+const MOST_HEAD: usize = 65_536;
+
+// Where more bytes than this wait to be sent, no further request is answered.
+const MOST_PENDING: usize = 4096;
+
+// The least room for a read.
+const READ_SIZE: usize = 1024;
 
 /// What conversations begin with.
 #[derive(Clone, Copy)]
@@ -22,6 +35,25 @@ pub(crate) struct Beginning {
 }
 
 impl Beginning {
+    /// By these keys, and within the limits of a relay.
+    pub(crate) fn new(alloc: Global, keys: RandomState) -> Beginning {
+        let limits = HeadLimits {
+            max_head_len: MOST_HEAD,
+            ..HeadLimits::default()
+        };
+        let config = Config {
+            limits,
+            max_body_len: MOST_REQUEST,
+            max_pending: MOST_PENDING,
+            read_size: READ_SIZE,
+        };
+        Beginning {
+            alloc,
+            keys,
+            config,
+        }
+    }
+
     /// A connection of which nothing was read yet.
     pub(crate) fn connection(&self) -> Connection
         ensures config { config_of result ≡ self.now.config }

@@ -11,8 +11,6 @@ use crate::talk::Beginning;
 use crate::times::Limits;
 use crate::turn::Turn;
 use fp_connections::{Counts, Role, Tally};
-use http_server::Config;
-use http1::Limits as HeadLimits;
 use mio::event::Event;
 use mio::{Events, Interest, Poll, Token, Waker};
 use slab::Slab;
@@ -32,18 +30,6 @@ const WAKE: usize = usize::MAX;
 
 // Between two looks at the limits of time, in milliseconds.
 const SWEEP: u64 = 1000;
-
-/// The longest body of a request, in bytes. A longer one is refused.
-pub const MOST_REQUEST: usize = 65_536;
-
-// The longest head of a request, in bytes. A longer one is refused.
-const MOST_HEAD: usize = 65_536;
-
-// Where more bytes than this wait to be sent, no further request is answered.
-const MOST_PENDING: usize = 4096;
-
-// The least room for a read.
-const READ_SIZE: usize = 1024;
 
 /// A loop over connections, which one thread runs.
 #[derive(Drop)]
@@ -80,20 +66,7 @@ where
     ) -> io::Result<Loop<S, N>> {
         let poll = Poll::new(rt)?;
         let waker = Waker::new(poll.registry(), Token(WAKE))?;
-        let config = Config {
-            limits: HeadLimits {
-                max_head_len: MOST_HEAD,
-                ..HeadLimits::default()
-            },
-            max_body_len: MOST_REQUEST,
-            max_pending: MOST_PENDING,
-            read_size: READ_SIZE,
-        };
-        let beginning = Beginning {
-            alloc,
-            keys: RandomState::new(rt)?,
-            config,
-        };
+        let beginning = Beginning::new(alloc, RandomState::new(rt)?);
         Ok(Loop {
             poll,
             events: Events::with_capacity(alloc, EVENTS)?,
