@@ -1,5 +1,5 @@
 -- Each answer of a body is a step of what is gathered of it.
-use Rattle.std.proofs.Common.{◌≡◌, ℕ, List, [], ◌∷◌, ◌++◌, Some, None, Result, Ok, Err, refl, sym, ap, ◌∙◌, inl, append_assoc, append-nil}
+use Rattle.std.proofs.Common.{◌≡◌, ℕ, List, [], ◌++◌, Some, None, Result, Ok, Err, refl, sym, ap, ◌∙◌, inl, append_assoc, append-nil}
 use Rattle.std.specs.Global.{Vec}
 use Rattle.futures.specs.Runs.{Runs, After, Within}
 use Rattle.futures.proofs.SentLemmas.{EndsOrFails_failed, EndsOrFails-After, EndsOrFails-Within}
