@@ -40,7 +40,7 @@ pub enum Source {
     Input,
     /// Standard output.
     Output,
-    /// The connection of `watch`.
+    /// A connection: that of `watch`, or one that a service lets in.
     Connection,
 }
 
