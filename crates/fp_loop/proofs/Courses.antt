@@ -6,9 +6,9 @@ use Rattle.fp_stream.specs.declared.hello.Hello.{Hello}
 use Rattle.fp_stream.specs.declared.hello.Hello.TheVariants.{Has}
 use Rattle.fp_stream.specs.Frames.{Snapshot}
 use Rattle.fp_stream.specs.Heads.{IsNewer}
-use Rattle.fp_loop.specs.declared.news.News.{Ghosts}
+use Rattle.fp_news.specs.declared.news.News.{Ghosts}
 use Rattle.fp_loop.specs.declared.turning.Loop.{Loop}
-use Rattle.fp_loop.specs.Newest.{had}
+use Rattle.fp_news.specs.Newest.{had}
 use Rattle.fp_loop.specs.Talks.{Answering, Serves}
 use Rattle.fp_loop.specs.Courses.{Step, Called, Told, Informing, Course, Rise, RunsOn, KeepsOn, shown_by}
 

@@ -1,4 +1,3 @@
 pub mod Courses
-pub mod Frames
 pub mod Talking
 pub mod Telling

@@ -1,7 +1,5 @@
 pub mod Courses
 pub mod Hearing
-pub mod Newest
-pub mod Outgoing
 pub mod Peers
 pub mod Subscribers
 pub mod Talks

@@ -2,9 +2,9 @@
 use Rattle.std.specs.Prelude.{ℕ, List, Option, Some, None}
 use Rattle.fp_stream.specs.declared.hello.Hello.{Hello}
 use Rattle.fp_stream.specs.Frames.{Snapshot}
-use Rattle.fp_loop.specs.declared.news.News.{Ghosts}
-use Rattle.fp_loop.specs.declared.outgoing.Outgoing.{Outgoing}
-use Rattle.fp_loop.specs.Outgoing.{GoesOnTelling, Tells}
+use Rattle.fp_news.specs.declared.news.News.{Ghosts}
+use Rattle.fp_news.specs.declared.outgoing.Outgoing.{Outgoing}
+use Rattle.fp_news.specs.Outgoing.{GoesOnTelling, Tells}
 
 -- who was heard is told on, and who wasn't is told from the hello on
 abbrev pub TellsOn : {N : Type 0} {news : Ghosts N} → Option (Outgoing N news)

@@ -1,7 +1,7 @@
 //! What loops are handed from other threads: connections, news, and that they stop.
 
-use crate::news::{Newest, News};
 use fp_connections::Role;
+use fp_news::{Newest, News};
 use mio::Waker;
 use std::alloc::{AllocError, Global};
 use std::mem;
@@ -75,7 +75,8 @@ impl<N: News + Drop> Inbox<N> {
         Ok(())
     }
 
-    /// Has the loop end all of its connections and return.
+    /// Has the loop answer nothing any more and return: once what is being sent was taken, or two
+    /// seconds later. All of its connections end by then.
     pub fn stop<R: Wait>(&self, rt: &R) {
         self.post.lock(rt).is_stopped = true;
         let _ = self.waker.wake();
@@ -131,7 +132,8 @@ impl<N: News + Drop> Loops<N> {
         self.inboxes[at].post_connection(rt, stream, role)
     }
 
-    /// Has each loop end its connections and return.
+    /// Has each loop answer nothing any more and return: once what is being sent was taken, or two
+    /// seconds later. All connections end by then.
     pub fn stop<R: Wait>(&self, rt: &R) {
         for inbox in &self.inboxes {
             inbox.stop(rt);

@@ -4,10 +4,9 @@
 mod counting;
 mod heard;
 mod inbox;
+mod informed;
 mod listening;
 mod member;
-mod news;
-mod outgoing;
 mod peer;
 mod refusal;
 mod socket;
@@ -19,9 +18,8 @@ mod turn;
 mod turning;
 
 pub use inbox::{Inbox, Loops};
+pub use informed::Informed;
 pub use listening::{Door, Listening};
-pub use news::{Informed, News};
-pub use outgoing::Outgoing;
 pub use talk::MOST_REQUEST;
 pub use times::{Limits, Waiting, is_over_time};
 pub use turning::Loop;

@@ -1,8 +1,8 @@
 //! What lets connections in.
 
 use crate::inbox::Loops;
-use crate::news::News;
 use fp_connections::{Counts, Role, probe_peers};
+use fp_news::News;
 use libc::net as c;
 use std::alloc::Global;
 use std::net::{Net, SocketAddr, SocketAddrV4, TcpListener, TcpStream};

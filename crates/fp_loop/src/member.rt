@@ -3,14 +3,14 @@
 ghost use Rattle.fp_loop.specs.Talks.{Serves};
 
 use crate::counting::Counting;
-use crate::news::{Newest, News};
 use crate::peer::Peer;
 use crate::socket::Socket;
 use crate::subscriber::Subscriber;
 use crate::talk::Beginning;
 use crate::times::Limits;
 use crate::turn::Turn;
-use fp_connections::Role;
+use fp_connections::{Role, Tally};
+use fp_news::{Newest, News};
 use http_server::Service;
 use std::alloc::Global;
 
@@ -44,18 +44,30 @@ impl<N: News + Drop> Member<N> {
         }
     }
 
-    /// Takes its turn.
+    /// Takes its turn. Where its loop ends, what is being sent goes on, and nothing begins.
     pub(crate) fn turn<S: Service + Drop>(
         &mut self,
         service: &mut Counting<S>,
         shown: &Newest<N>,
+        ends: bool,
         now: u64,
     ) -> Turn
         ensures { Serves S.answers service.old.service service.new.service }
     {
+        if ends {
+            return self.finish(&mut service.tally, now);
+        }
         match &mut self.kind {
             Kind::Requests(peer) => peer.turn(service, now),
             Kind::Frames(subscriber) => subscriber.turn(shown, &mut service.tally, now),
+        }
+    }
+
+    // Takes its turn where its loop ends.
+    fn finish(&mut self, tally: &mut Tally, now: u64) -> Turn {
+        match &mut self.kind {
+            Kind::Requests(peer) => peer.finish(now),
+            Kind::Frames(subscriber) => subscriber.finish(tally, now),
         }
     }
 

@@ -189,12 +189,43 @@ impl Peer {
                 if let Reason::Refused(refusal) = reason {
                     self.refused = Some(status_of(refusal));
                 }
-                self.waiting = Waiting::Leaving;
-                self.since = now;
-                self.socket.stream.shutdown(Shutdown::Write).is_ok()
+                self.hang_up(now)
             }
             _ => false,
         }
+    }
+
+    // Ends its own side. Answers whether the peer is to be waited for.
+    fn hang_up(&mut self, now: u64) -> bool
+        ensures { self.new.connection ≡ self.old.connection }
+    {
+        self.waiting = Waiting::Leaving;
+        self.since = now;
+        self.socket.stream.shutdown(Shutdown::Write).is_ok()
+    }
+
+    /// Writes what waits to be sent and answers nothing more, until it would wait or its turn is
+    /// over. Who was sent the last of it is waited for.
+    pub(crate) fn finish(&mut self, now: u64) -> Turn {
+        if self.waiting == Waiting::Leaving {
+            return self.see_off();
+        }
+        for _ in 0..ROUNDS {
+            if !self.connection.wants_write() {
+                let stays = self.waiting == Waiting::Taker && self.hang_up(now);
+                return if stays { Turn::Goes } else { Turn::Over };
+            }
+            if !self.socket.may_write {
+                return Turn::Waits;
+            }
+            match self.connection.write_to(&mut self.socket) {
+                Ok(0) => return Turn::Over,
+                Ok(_) => {}
+                Err(fault) if is_passing(fault.kind()) => {}
+                Err(_) => return Turn::Over,
+            }
+        }
+        Turn::Goes
     }
 
     /// The status with which a request was refused, if one was since the last time.

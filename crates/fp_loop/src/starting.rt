@@ -1,8 +1,9 @@
 //! Threads of loops and of listeners.
 
+use crate::informed::Informed;
 use crate::listening::{Door, Listening};
-use crate::news::{Informed, News};
 use crate::turning::Loop;
+use fp_news::News;
 use std::alloc::Global;
 use std::sync::{Arc, Wait};
 use std::thread::{JoinHandle, Threads};

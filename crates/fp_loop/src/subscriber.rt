@@ -1,16 +1,15 @@
 //! One subscriber, as steps that don't wait.
 
 ghost use Rattle.std.specs.Prelude.{◌≡◌};
-ghost use Rattle.fp_loop.specs.Outgoing.{GoesOnTelling};
+ghost use Rattle.fp_news.specs.Outgoing.{GoesOnTelling};
 ghost use Rattle.fp_loop.specs.Subscribers.{TellsOn};
 
 use crate::heard::{Heard, hello_of};
-use crate::news::{Newest, News};
-use crate::outgoing::Outgoing;
 use crate::socket::{Socket, is_passing};
 use crate::times::{Limits, Waiting, is_over_time};
 use crate::turn::Turn;
 use fp_connections::Tally;
+use fp_news::{Newest, News, Outgoing};
 use std::io::Read;
 use std::sync::Arc;
 
@@ -47,6 +46,16 @@ impl<N: News + Drop> Subscriber<N> {
             Turn::Over => Turn::Over,
             Turn::Goes => Turn::Goes,
             Turn::Waits => self.tell(shown, tally, now),
+        }
+    }
+
+    /// Sends what is left of the frame that is being sent, until it would wait or its turn is over.
+    pub(crate) fn finish(&mut self, tally: &mut Tally, now: u64) -> Turn
+        ensures { TellsOn self.old.outgoing self.new.outgoing }
+    {
+        match self.tell(&Newest::new(), tally, now) {
+            Turn::Waits if self.waiting != Waiting::Taker => Turn::Over,
+            turn => turn,
         }
     }
 

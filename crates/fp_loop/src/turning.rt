@@ -2,8 +2,8 @@
 
 use crate::counting::Counting;
 use crate::inbox::{Inbox, Taken};
+use crate::informed::Informed;
 use crate::member::{Kind, Member};
-use crate::news::{Informed, Newest, News};
 use crate::peer::Peer;
 use crate::socket::Socket;
 use crate::subscriber::Subscriber;
@@ -11,6 +11,7 @@ use crate::talk::Beginning;
 use crate::times::Limits;
 use crate::turn::Turn;
 use fp_connections::{Counts, Role, Tally};
+use fp_news::{Newest, News};
 use mio::event::Event;
 use mio::{Events, Interest, Poll, Token, Waker};
 use slab::Slab;
@@ -31,6 +32,12 @@ const WAKE: usize = usize::MAX;
 // Between two looks at the limits of time, in milliseconds.
 const SWEEP: u64 = 1000;
 
+// For how long what is being sent may be taken once the loop was stopped, and how long it waits at
+// once then, in milliseconds.
+const LAST: u64 = 2000;
+
+const LAST_WAIT: u64 = 100;
+
 /// A loop over connections, which one thread runs.
 #[derive(Drop)]
 pub struct Loop<S: Drop, N: News + Drop> {
@@ -47,6 +54,8 @@ pub struct Loop<S: Drop, N: News + Drop> {
     counts: Arc<Counts, Global>,
     // When the limits of time were last looked at.
     swept: u64,
+    // When it returns at the latest, once it was stopped.
+    returns: Option<u64>,
 }
 
 impl<S, N> Loop<S, N>
@@ -83,6 +92,7 @@ where
             limits,
             counts,
             swept: 0,
+            returns: None,
         })
     }
 
@@ -114,12 +124,10 @@ where
         let is_woken = self.mark();
         self.take_turns(now);
         let is_due = now.saturating_sub(self.swept) >= SWEEP;
-        if !self.look_in(rt, is_woken || is_due, now) {
-            return false;
-        }
+        self.look_in(rt, is_woken || is_due, now);
         self.look_round(is_due, now);
         self.tell();
-        true
+        !self.has_ended(now)
     }
 
     // Waits for what is ready.
@@ -132,14 +140,14 @@ where
         }
     }
 
-    // Does what was handed in asks for, where it is time to look. Answers whether it goes on.
-    fn look_in<R: Wait>(&mut self, rt: &R, is_time: bool, now: u64) -> bool
+    // Does what was handed in asks for, where it is time to look.
+    fn look_in<R: Wait>(&mut self, rt: &R, is_time: bool, now: u64)
         ensures { RunsOn S.answers S.informs self.old self.new }
     {
         if !is_time {
-            return true;
+            return;
         }
-        self.collect(rt, now)
+        self.collect(rt, now);
     }
 
     // Looks at the limits of time, where it is time to.
@@ -153,8 +161,8 @@ where
         self.sweep(now);
     }
 
-    // Does what was handed in asks for. Answers whether it goes on.
-    fn collect<R: Wait>(&mut self, rt: &R, now: u64) -> bool
+    // Does what was handed in asks for.
+    fn collect<R: Wait>(&mut self, rt: &R, now: u64)
         ensures { RunsOn S.answers S.informs self.old self.new }
     {
         let Taken {
@@ -163,13 +171,38 @@ where
             is_stopped,
         } = self.inbox.take(rt);
         if is_stopped {
-            self.end();
-            return false;
+            self.stop(now);
+            return;
         }
         if let Some(news) = news {
             self.show(news);
         }
         self.begin_all(streams, now);
+    }
+
+    // From now on answers nothing, and lets what is being sent be taken.
+    fn stop(&mut self, now: u64)
+        ensures { KeepsOn self.old self.new }
+    {
+        if self.returns.is_some() {
+            return;
+        }
+        self.returns = Some(now.saturating_add(LAST));
+        self.enqueue_all(None);
+    }
+
+    // Whether it was stopped, and nothing is being sent any more or the time for that is over. Then
+    // all connections end.
+    fn has_ended(&mut self, now: u64) -> bool
+        ensures { KeepsOn self.old self.new }
+    {
+        let Some(returns) = self.returns else {
+            return false;
+        };
+        if now < returns && !self.members.is_empty() {
+            return false;
+        }
+        self.end();
         true
     }
 
@@ -188,6 +221,8 @@ where
             Some(Duration::from_millis(0))
         } else if self.members.is_empty() {
             None
+        } else if self.returns.is_some() {
+            Some(Duration::from_millis(LAST_WAIT))
         } else {
             Some(Duration::from_millis(SWEEP))
         }
@@ -254,7 +289,8 @@ where
         let Some(member) = self.members.get_mut(key) else {
             return Turn::Waits;
         };
-        let turn = member.turn(&mut self.service, &self.shown, now);
+        let ends = self.returns.is_some();
+        let turn = member.turn(&mut self.service, &self.shown, ends, now);
         member.is_queued = turn == Turn::Goes;
         let refusal = member.take_refusal();
         self.count_refusal(refusal);
@@ -290,16 +326,16 @@ where
             return;
         }
         self.service.service.inform(told);
-        self.enqueue_subscribers();
+        self.enqueue_all(Some(Role::Frames));
     }
 
-    // Has each subscriber take its turn.
-    fn enqueue_subscribers(&mut self)
+    // Has each connection of this role, or of any, take its turn.
+    fn enqueue_all(&mut self, role: Option<Role>)
         ensures { KeepsOn self.old self.new }
     {
         for key in 0..self.members.capacity() {
             if let Some(member) = self.members.get_mut(key)
-                && member.role() == Role::Frames
+                && role.is_none_or(|role| role == member.role())
             {
                 enqueue(&mut self.queue, member, key);
             }

@@ -3,7 +3,7 @@
 ghost use Rattle.std.specs.Prelude.{◌≡◌, ◌≤◌, length};
 ghost use Rattle.fp_stream.specs.declared.head.TheConstants.{MOST_BODY};
 
-use fp_loop::News;
+use fp_news::News;
 use fp_shown::Shown;
 use std::marker::Model;
 

@@ -4,7 +4,7 @@ use crate::events::{Event, tell_failure};
 use crate::set::Set;
 use fp_connections::Host;
 use fp_kept::{KeptFile, KeptFiles, parts_of};
-use fp_loop::News;
+use fp_news::News;
 use std::alloc::Global;
 use std::sync::{Arc, Condvar, CondvarTimeouts, Mutex, Wait};
 use std::time::Duration;

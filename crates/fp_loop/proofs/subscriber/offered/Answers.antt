@@ -1,5 +1,5 @@
 use Rattle.std.specs.Arc.{arc_value}
-use Rattle.fp_loop.proofs.Telling.{offers}
+use Rattle.fp_news.proofs.Telling.{offers}
 use Rattle.fp_loop.proofs.subscriber.offered.Goals as goal
 
 pub returns : goal.returns

@@ -1,4 +1,4 @@
-use Rattle.fp_loop.proofs.Telling.{sends}
+use Rattle.fp_news.proofs.Telling.{sends}
 use Rattle.fp_loop.proofs.subscriber.sent_once.Goals as goal
 
 pub returns-in-Ok : goal.returns-in-Ok

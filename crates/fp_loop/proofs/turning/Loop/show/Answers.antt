@@ -1,6 +1,6 @@
 use Rattle.std.proofs.Common.{ap, subst}
 use Rattle.std.specs.Arc.{arc_value}
-use Rattle.fp_loop.specs.Newest.{had}
+use Rattle.fp_news.specs.Newest.{had}
 use Rattle.fp_loop.proofs.Courses.{runs_informed, runs_kept, runs_then}
 use Rattle.fp_loop.proofs.turning.Loop.show.Goals as goal
 
@@ -13,4 +13,4 @@ returns g c =
     c.inform.ensures)
     (c.take.ensures.taken.0 c.if-not-take.false)
     (ap (had (λ n. g.N.News.shows (arc_value n))) (c.take.ensures.new c.if-not-take.false)))
-    (runs_kept g.S.Service.answers g.S.Informed.informs _ _ c.enqueue_subscribers.ensures)
+    (runs_kept g.S.Service.answers g.S.Informed.informs _ _ c.enqueue_all.ensures)

@@ -1,14 +1,6 @@
 use Rattle.fp_loop.proofs.Courses.{runs_kept, runs_then}
 use Rattle.fp_loop.proofs.turning.Loop.turn.Goals as goal
 
-pub returns-then-not-look_in : goal.returns-then-not-look_in
-returns-then-not-look_in g c =
-    runs_then g.S.Service.answers g.S.Informed.informs _ _ _
-    (runs_kept g.S.Service.answers g.S.Informed.informs _ _ c.wait.ensures)
-    (runs_then g.S.Service.answers g.S.Informed.informs _ _ _
-    (runs_kept g.S.Service.answers g.S.Informed.informs _ _ c.mark-is_woken.ensures)
-    (runs_then g.S.Service.answers g.S.Informed.informs _ _ _ c.take_turns.ensures c.look_in.ensures))
-
 pub returns : goal.returns
 returns g c =
     runs_then g.S.Service.answers g.S.Informed.informs _ _ _
@@ -18,4 +10,6 @@ returns g c =
     (runs_then g.S.Service.answers g.S.Informed.informs _ _ _ c.take_turns.ensures
     (runs_then g.S.Service.answers g.S.Informed.informs _ _ _ c.look_in.ensures
     (runs_then g.S.Service.answers g.S.Informed.informs _ _ _ c.look_round.ensures
-    (runs_kept g.S.Service.answers g.S.Informed.informs _ _ c.tell.ensures)))))
+    (runs_then g.S.Service.answers g.S.Informed.informs _ _ _
+    (runs_kept g.S.Service.answers g.S.Informed.informs _ _ c.tell.ensures)
+    (runs_kept g.S.Service.answers g.S.Informed.informs _ _ c.has_ended.ensures))))))

@@ -1,8 +1,8 @@
 use Rattle.std.proofs.Common.{rules, ◌≡◌, ◌<◌, ◌^◌, subst}
 use Rattle.fp_stream.specs.Heads.{IsNewer}
-use Rattle.fp_loop.proofs.Frames.{tells_begun}
+use Rattle.fp_news.proofs.Frames.{tells_begun}
 use Rattle.std.specs.Arc.{arc_value}
-use Rattle.fp_loop.proofs.outgoing.Outgoing.offer.Goals as goal
+use Rattle.fp_news.proofs.outgoing.Outgoing.offer.Goals as goal
 
 pub returns-clause-told : goal.returns-clause-told
 returns-clause-told g c began hello went begun t =

@@ -32,7 +32,7 @@ pub struct Outgoing<N: News + Drop> {
 }
 
 impl<N: News + Drop> Outgoing<N> {
-    ghost use Rattle.fp_loop.specs.Outgoing.{rest_of, Tells};
+    ghost use Rattle.fp_news.specs.Outgoing.{rest_of, Tells};
 
     /// What goes to a subscriber that said this hello.
     pub fn new(has: Hello) -> Outgoing<N>
@@ -131,7 +131,7 @@ impl<N: News + Drop> Outgoing<N> {
 }
 
 impl<N: News + Drop> Sending<N> {
-    ghost use Rattle.fp_loop.specs.Outgoing.{left_of};
+    ghost use Rattle.fp_news.specs.Outgoing.{left_of};
 
     // The frame of these news, which have this revision.
     fn of(news: Arc<N, Global>, revision: u64) -> Sending<N>

@@ -1,9 +1,9 @@
 use Rattle.std.proofs.Common.{◌≤◌, ◌-◌, ◌++◌, ◌∙◌, refl, sym, ap, subst, arith, length, drop}
 use Rattle.std.proofs.lemmas.List.{length-drop, drop-drop}
 use Rattle.std.specs.Arc.{arc_value}
-use Rattle.fp_loop.specs.Outgoing.{left_of}
-use Rattle.fp_loop.proofs.Frames.{tells_sent}
-use Rattle.fp_loop.proofs.outgoing.Outgoing.sent.Goals as goal
+use Rattle.fp_news.specs.Outgoing.{left_of}
+use Rattle.fp_news.proofs.Frames.{tells_sent}
+use Rattle.fp_news.proofs.outgoing.Outgoing.sent.Goals as goal
 
 pub overflow_add-at : goal.overflow_add-at
 overflow_add-at g c =

@@ -3,9 +3,9 @@ use Rattle.std.specs.Prelude.{◌≡◌, ℕ, List, [], ◌++◌, drop, Option, 
 use Rattle.std.specs.Arc.{arc_value}
 use Rattle.fp_stream.specs.declared.hello.Hello.{Hello}
 use Rattle.fp_stream.specs.Frames.{Snapshot, stream_of, AreNews, has_after}
-use Rattle.fp_loop.specs.declared.news.News.{Ghosts}
-use Rattle.fp_loop.specs.declared.outgoing.Sending.{Sending}
-use Rattle.fp_loop.specs.declared.outgoing.Outgoing.{Outgoing}
+use Rattle.fp_news.specs.declared.news.News.{Ghosts}
+use Rattle.fp_news.specs.declared.outgoing.Sending.{Sending}
+use Rattle.fp_news.specs.declared.outgoing.Outgoing.{Outgoing}
 
 module _ {N : Type 0} {g : Ghosts N} where
   -- what is left of a frame that is being sent

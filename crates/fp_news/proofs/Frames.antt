@@ -10,10 +10,10 @@ use Rattle.fp_stream.specs.declared.hello.Hello.TheVariants.{Has}
 use Rattle.fp_stream.specs.Heads.{IsHead}
 use Rattle.fp_stream.specs.Frames.{Snapshot, frame, stream_of}
 use Rattle.fp_stream.proofs.Streams.{AreNews-append, has_after-append, stream_of-append}
-use Rattle.fp_loop.specs.declared.outgoing.Outgoing.{Outgoing}
-use Rattle.fp_loop.specs.declared.news.News.{Ghosts}
-use Rattle.fp_loop.specs.declared.outgoing.Sending.{Sending}
-use Rattle.fp_loop.specs.Outgoing.{left_of, rest_of, Tells}
+use Rattle.fp_news.specs.declared.outgoing.Outgoing.{Outgoing}
+use Rattle.fp_news.specs.declared.news.News.{Ghosts}
+use Rattle.fp_news.specs.declared.outgoing.Sending.{Sending}
+use Rattle.fp_news.specs.Outgoing.{left_of, rest_of, Tells}
 
 module _ {N : Type 0} {g : Ghosts N} where
   pub left-some : (s : Sending N g) → left_of (Some s) ≢ []

@@ -1,6 +1,6 @@
 use Rattle.std.proofs.Common.{rules}
-use Rattle.fp_loop.proofs.Frames.{is_not_left}
-use Rattle.fp_loop.proofs.outgoing.Outgoing.takes.Goals as goal
+use Rattle.fp_news.proofs.Frames.{is_not_left}
+use Rattle.fp_news.proofs.outgoing.Outgoing.takes.Goals as goal
 
 pub returns-else-is_none : goal.returns-else-is_none
 returns-else-is_none g c =

@@ -1,5 +1,0 @@
-use Rattle.fp_loop.proofs.Frames.{is_left}
-use Rattle.fp_loop.proofs.outgoing.Outgoing.is_sending.Goals as goal
-
-pub returns : goal.returns
-returns g c = rw c.is_some.ensures (is_left c.args.self.now.sending)
