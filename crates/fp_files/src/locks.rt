@@ -6,9 +6,11 @@ ghost use Rattle.fp_files.specs.Locks.{HasNoLocks, MayWrite};
 ghost use Rattle.fp_files.specs.Openings.{makes, writes};
 
 use crate::openings::Purpose;
+use libc::{POSIX_FADV_DONTNEED, posix_fadvise};
 use std::fs::{File, Metadata, OpenOptions, TryLockError};
 use std::io;
 use std::io::ErrorKind;
+use std::os::fd::AsRawFd;
 use std::os::unix::fs::FileTypeExt;
 use std::rt::Files;
 
@@ -20,7 +22,8 @@ const TAKEN: &str = "another program has the file to write";
 const NO_FILE: &str = "it is a folder or a pipe";
 
 /// The file at this path, with its lock where it is to be written: the file has it until it is
-/// closed. Where another program has the lock it isn't opened. What is in the file stays.
+/// closed. Where another program has the lock it isn't opened. What is in the file stays. One that
+/// is to be written is read as its device has it.
 pub fn open_for<R: Files<File = File>>(rt: &R, path: &str, purpose: Purpose) -> io::Result<File> {
     if !writes(purpose) {
         has_bytes(&rt.metadata(path)?)?;
@@ -28,8 +31,15 @@ pub fn open_for<R: Files<File = File>>(rt: &R, path: &str, purpose: Purpose) -> 
     let file = options_for(purpose).open(rt, path)?;
     if writes(purpose) {
         may_write(file.try_lock())?;
+        forget(&file);
     }
     Ok(file)
+}
+
+// Has the system forget what it holds of a file in memory. A sync that failed may have left there
+// what the device doesn't have, as if it were synced, so that no later sync would write it.
+fn forget(file: &File) {
+    let _ = posix_fadvise(file.as_raw_fd(), 0, 0, POSIX_FADV_DONTNEED);
 }
 
 // What opens for reading, and neither a folder nor what waits for a writer.

@@ -8,6 +8,7 @@ mod informed;
 mod listening;
 mod member;
 mod peer;
+mod queue;
 mod refusal;
 mod socket;
 mod starting;

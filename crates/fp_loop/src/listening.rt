@@ -1,12 +1,12 @@
 //! What lets connections in.
 
 use crate::inbox::Loops;
-use fp_connections::{Counts, Role, probe_peers};
+use fp_connections::{Counts, Role, close_listener, probe_peers};
+use fp_log::{Event, Source, tell_failure};
 use fp_news::News;
-use libc::net as c;
+use log::Log;
 use std::alloc::Global;
 use std::net::{Net, SocketAddr, SocketAddrV4, TcpListener, TcpStream};
-use std::os::fd::AsRawFd;
 use std::sync::atomic::{AtomicBool, Ordering};
 use std::sync::{Arc, Wait};
 use std::time::{Clock, Duration};
@@ -58,19 +58,30 @@ impl Listening {
     /// door. Where there are as many as there may be, a connection is closed without a byte.
     pub fn accept<R, N>(&self, rt: &R, door: &Door<N>)
     where
-        R: Wait + Clock,
+        R: Wait + Clock + Log,
         N: News + Drop,
     {
         let mut turn = 0u64;
+        let mut is_told = false;
         for _ in rt.forever() {
             let accepted = self.listener.accept();
             if self.is_closed.load(Ordering::SeqCst) {
                 return;
             }
             match accepted {
-                Ok((stream, _peer)) => door.let_in(rt, stream, turn),
-                // What is wanting may be there again soon.
-                Err(_) => thread::sleep(rt, Duration::from_millis(10)),
+                Ok((stream, _peer)) => {
+                    is_told = false;
+                    door.let_in(rt, stream, turn);
+                }
+                Err(reason) => {
+                    if !is_told {
+                        let (call, source) = ("accept", Source::Connection);
+                        tell_failure(rt, &Event::CallFailed { call, source }, &reason);
+                    }
+                    is_told = true;
+                    // What is wanting may be there again soon.
+                    thread::sleep(rt, Duration::from_millis(10));
+                }
             }
             turn = turn.wrapping_add(1);
         }
@@ -79,9 +90,7 @@ impl Listening {
     /// Lets no connection in any more, and has `accept` return.
     pub fn close(&self) {
         self.is_closed.store(true, Ordering::SeqCst);
-        // `accept` fails by this, where it waits too. It takes no descriptor, of which there may be
-        // none left.
-        let _ = c::shutdown(self.listener.as_raw_fd(), c::SHUT_RDWR);
+        close_listener(&self.listener);
     }
 }
 

@@ -4,6 +4,7 @@ use crate::informed::Informed;
 use crate::listening::{Door, Listening};
 use crate::turning::Loop;
 use fp_news::News;
+use log::Log;
 use std::alloc::Global;
 use std::sync::{Arc, Wait};
 use std::thread::{JoinHandle, Threads};
@@ -37,7 +38,7 @@ impl Listening {
         door: Door<N>,
     ) -> io::Result<JoinHandle<()>>
     where
-        R: Wait + Threads + Clock + Copy + Send + Drop + 'static,
+        R: Wait + Threads + Clock + Log + Copy + Send + Drop + 'static,
         N: News + Drop + Send + Sync + 'static,
     {
         let own = *rt;

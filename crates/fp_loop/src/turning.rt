@@ -5,6 +5,7 @@ use crate::inbox::{Inbox, Taken};
 use crate::informed::Informed;
 use crate::member::{Kind, Member};
 use crate::peer::Peer;
+use crate::queue::{enqueue, mark_member, put};
 use crate::socket::Socket;
 use crate::subscriber::Subscriber;
 use crate::talk::Beginning;
@@ -12,7 +13,6 @@ use crate::times::Limits;
 use crate::turn::Turn;
 use fp_connections::{Counts, Role, Tally};
 use fp_news::{Newest, News};
-use mio::event::Event;
 use mio::{Events, Interest, Poll, Token, Waker};
 use slab::Slab;
 use std::alloc::{AllocError, Global};
@@ -423,36 +423,6 @@ where
             self.remove(key);
         }
         self.tell();
-    }
-}
-
-// Tells a connection what its socket is ready for, and puts it into the queue.
-fn mark_member<N: News + Drop>(
-    members: &mut Slab<Member<N>>,
-    queue: &mut Vec<usize>,
-    key: usize,
-    event: &Event,
-) {
-    let Some(member) = members.get_mut(key) else {
-        return;
-    };
-    let ends = event.is_read_closed() || event.is_error();
-    let writes = event.is_writable() || event.is_error();
-    member.socket().mark(event.is_readable(), writes, ends);
-    enqueue(queue, member, key);
-}
-
-// Puts a connection into the queue, once.
-fn enqueue<N: News + Drop>(queue: &mut Vec<usize>, member: &mut Member<N>, key: usize) {
-    if !member.is_queued && queue.push(key).is_ok() {
-        member.is_queued = true;
-    }
-}
-
-// Puts a key at this place of the queue.
-fn put(queue: &mut Vec<usize>, at: usize, key: usize) {
-    if let Some(place) = queue.get_mut(at) {
-        *place = key;
     }
 }
 

@@ -6,12 +6,12 @@ use crate::connections::{Connections, Place};
 use crate::ended::{Ended, tell_fault};
 use crate::lingering::linger;
 use crate::roles::{Role, converse};
-use fp_connections::{Host, probe_peers};
+use fp_connections::{Host, close_listener, probe_peers};
 use fp_disk::Disk;
 use fp_http::TimeLimits;
 use fp_log::{Event, Port, Source, tell, tell_failure};
 use fp_plane::{Naming, SealingPlane};
-use std::net::{IpAddr, Ipv4Addr, Shutdown, SocketAddr, SocketAddrV4, TcpListener, TcpStream};
+use std::net::{Shutdown, SocketAddr, SocketAddrV4, TcpListener, TcpStream};
 use std::time::Duration;
 use std::{io, thread};
 
@@ -24,6 +24,8 @@ pub struct Listening<R: Drop> {
     limits: TimeLimits,
     // Until the thread that accepts has it.
     listener: Option<TcpListener>,
+    // The same, by which it is closed.
+    closing: TcpListener,
     connections: Connections<R>,
 }
 
@@ -41,6 +43,7 @@ impl<R: Host> Listening<R> {
             role,
             bound: listener.local_addr()?,
             limits,
+            closing: listener.try_clone()?,
             listener: Some(listener),
             connections: Connections::new(*rt, rt.alloc(), role.limit())?,
         })
@@ -90,8 +93,7 @@ impl<R: Host> Listening<R> {
     /// Lets no connection in any more, and ends reads or writes that wait on those that are open.
     pub fn close(&self, how: Shutdown) {
         self.connections.close(how);
-        // The thread that accepts wakes by one more.
-        let _ = TcpStream::connect(&self.rt, reached(self.bound));
+        close_listener(&self.closing);
     }
 
     /// Waits until no connection is open, for no longer than this.
@@ -111,16 +113,6 @@ fn bind<R: Host>(rt: &R, port: Port, address: SocketAddrV4) -> io::Result<TcpLis
             tell_failure(rt, &Event::NotBound { port, address }, &reason);
             Err(reason)
         }
-    }
-}
-
-// Where what is bound to all of this machine's addresses is reached.
-fn reached(bound: SocketAddr) -> SocketAddr {
-    match bound.ip() {
-        IpAddr::V4(ip) if ip.is_unspecified() => {
-            SocketAddr::new(IpAddr::V4(Ipv4Addr::LOCALHOST), bound.port())
-        }
-        _ => bound,
     }
 }
 
@@ -223,8 +215,8 @@ where
             linger(&own, &stream, &place);
         }
         drop(stream);
-        drop(place);
         ended.tell(&own, port, peer);
+        drop(place);
     });
     started?;
     Ok(())
