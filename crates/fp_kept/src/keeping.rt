@@ -50,8 +50,11 @@ impl KeptFile {
     }
 
     /// Keeps a frame in place of the one before: it is written beside it and synced, and then takes
-    /// its place, so that a crash leaves one or the other.
+    /// its place, so that a crash leaves one or the other. Nothing is written where what stands
+    /// at either place is no regular file.
     pub fn keep<K: KeptFiles>(&self, files: &K, parts: &KeptParts<'_>) -> io::Result<()> {
+        files.may_write(self.path.as_str())?;
+        files.may_write(self.beside.as_str())?;
         files.write(self.beside.as_str(), parts)?;
         files.rename(self.beside.as_str(), self.path.as_str())?;
         files.sync_folder(self.folder.as_str())

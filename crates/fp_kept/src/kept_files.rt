@@ -2,7 +2,7 @@
 
 use crate::kept::KeptParts;
 use std::alloc::Global;
-use std::fs::{File, OpenFile, OpenOptions};
+use std::fs::{File, Metadata, OpenFile, OpenOptions};
 use std::io;
 use std::io::{ErrorKind, Read, Write};
 use std::rt::Files;
@@ -10,10 +10,16 @@ use std::rt::Files;
 // The longest file that is read: a frame of the longest body, and its digest.
 const LONGEST: u64 = 134_217_728 + 48;
 
+const NO_FILE: &str = "what stands there, or at .new, is no regular file";
+
 /// The calls by which a frame is kept: those of the system are `SystemFiles`.
 pub trait KeptFiles: Drop {
     /// All bytes of a file. A file that is longer than any kept frame may be refused.
     fn read(&self, alloc: Global, path: &str) -> io::Result<Vec<u8>>;
+
+    /// Whether a file may be made at this path: `Err` where something else stands there, as a folder
+    /// or a device, also behind a link; `Ok` where nothing does.
+    fn may_write(&self, path: &str) -> io::Result<()>;
 
     /// Makes a file of these parts, in place of one that there may be, and syncs it.
     fn write(&self, path: &str, parts: &KeptParts<'_>) -> io::Result<()>;
@@ -41,13 +47,22 @@ impl<R: Files<File = File> + Drop> SystemFiles<R> {
 impl<R: Files<File = File> + Drop> KeptFiles for SystemFiles<R> {
     fn read(&self, alloc: Global, path: &str) -> io::Result<Vec<u8>> {
         let about = self.rt.metadata(path)?;
-        if !about.is_file() || about.len() > LONGEST {
-            return Err(io::Error::from(ErrorKind::InvalidInput));
+        is_regular(&about)?;
+        if about.len() > LONGEST {
+            return Err(io::Error::from(ErrorKind::FileTooLarge));
         }
         let mut file = File::open(&self.rt, path)?;
         let mut bytes = Vec::new(alloc);
         file.read_to_end(&mut bytes)?;
         Ok(bytes)
+    }
+
+    fn may_write(&self, path: &str) -> io::Result<()> {
+        match self.rt.metadata(path) {
+            Ok(about) => is_regular(&about),
+            Err(reason) if reason.kind() == ErrorKind::NotFound => Ok(()),
+            Err(reason) => Err(reason),
+        }
     }
 
     fn write(&self, path: &str, parts: &KeptParts<'_>) -> io::Result<()> {
@@ -72,4 +87,12 @@ impl<R: Files<File = File> + Drop> KeptFiles for SystemFiles<R> {
             Err(_) => Ok(()),
         }
     }
+}
+
+// Nothing else is read or written: a pipe would be waited for, a device replaced.
+fn is_regular(about: &Metadata) -> io::Result<()> {
+    if about.is_file() {
+        return Ok(());
+    }
+    Err(io::Error::new(ErrorKind::InvalidInput, NO_FILE))
 }

@@ -6,6 +6,7 @@ mod connecting;
 mod events;
 mod following;
 mod numbers;
+mod origins;
 mod ports;
 mod restoring;
 mod running;

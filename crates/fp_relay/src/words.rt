@@ -1,5 +1,7 @@
 //! What the program's words ask for.
 
+use crate::origins::is_origin;
+use clap::builder::ValueParser;
 use clap::error::ErrorKind;
 use clap::{Arg, ArgAction, ArgMatches, Command, Error, value_parser};
 use fp_relay_replies::Origins;
@@ -41,6 +43,10 @@ pub enum WordsFault<'w> {
         argument: &'static str,
         text: &'w str,
     },
+    /// What stands for `--allow-origin` is neither `*` nor an origin.
+    NoOrigin {
+        text: &'w str,
+    },
     /// There was no memory.
     Memory,
 }
@@ -52,6 +58,7 @@ impl fmt::Display for WordsFault<'_> {
             WordsFault::NoAddress { argument, text } => {
                 write!(f, "{argument} is no address: {text}")
             }
+            WordsFault::NoOrigin { text } => write!(f, "--allow-origin is no origin: {text}"),
             WordsFault::Memory => f.write_str("out of memory"),
         }
     }
@@ -99,6 +106,7 @@ pub fn options_of<'w>(alloc: Global, words: &'w [&'w str]) -> Result<Options<'w>
     let ofrep = address_of("OFREP", matches.get_str("ofrep").unwrap_or(""))?;
     let stream = address_at("--stream", matches.get_str("stream"))?;
     let status = address_at("--status", matches.get_str("status"))?;
+    check_origins(&matches)?;
     Ok(Options {
         source,
         ofrep,
@@ -144,6 +152,7 @@ fn with_more<'w>(alloc: Global, command: Command<'w>) -> Result<Command<'w>, All
     let keep = Arg::new(alloc, "keep")
         .long("keep")
         .value_name("FILE")
+        .value_parser(ValueParser::NonEmptyString)
         .help("Where the last snapshot is kept for the next start");
     let origins = Arg::new(alloc, "allow-origin")
         .long("allow-origin")
@@ -156,6 +165,16 @@ fn with_more<'w>(alloc: Global, command: Command<'w>) -> Result<Command<'w>, All
         .value_parser(value_parser!(u32))
         .help("How many connections for evaluations there may be at once");
     command.arg(keep)?.arg(origins)?.arg(connections)
+}
+
+// That each origin is one, or stands for all.
+fn check_origins<'w>(matches: &ArgMatches<'w>) -> Result<(), WordsFault<'w>> {
+    for &text in matches.get_strs("allow-origin").unwrap_or(&[]) {
+        if text != "*" && !is_origin(text) {
+            return Err(WordsFault::NoOrigin { text });
+        }
+    }
+    Ok(())
 }
 
 fn origins_of(alloc: Global, matches: &ArgMatches<'_>) -> Result<Origins, AllocError> {
