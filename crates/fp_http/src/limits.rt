@@ -1,5 +1,8 @@
 //! How long a connection may take, and what ended it.
 
+ghost use Rattle.std.specs.Prelude.{◌≡◌, ◌*◌};
+ghost use Rattle.std.specs.Duration.{as_nanos};
+
 use std::fmt;
 use std::io::ErrorKind;
 use std::time::Duration;
@@ -17,7 +20,14 @@ pub struct TimeLimits {
 
 impl TimeLimits {
     /// Those of a service: 75, 30 and 60 seconds.
-    pub fn usual() -> TimeLimits {
+    pub fn usual() -> TimeLimits
+        // Between two requests it may say nothing for 75 seconds,
+        ensures idle { as_nanos result.idle ≡ 75 * 1_000_000_000 }
+        // a request is whole after 30,
+        ensures request { as_nanos result.request ≡ 30 * 1_000_000_000 }
+        // and some of a reply is taken within 60.
+        ensures reply { as_nanos result.reply ≡ 60 * 1_000_000_000 }
+    {
         TimeLimits {
             idle: Duration::from_secs(75),
             request: Duration::from_secs(30),

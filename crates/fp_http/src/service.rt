@@ -57,7 +57,9 @@ impl<I: Drop, E: Evaluator, N: Fn() -> u64 + Drop> Service<Request<Incoming<I>>>
 
     ghost can_call = { λ s. N.IsAlwaysCallable s.now };
 
-    ghost calls = { λ _ request future. IfSome future.asked (IsAsked (head_of request)) };
+    // What is asked is the request's, and the moment is one that the clock gives at this call.
+    ghost calls = { λ s request future.
+        IfSome future.asked (IsAsked (head_of request)) × N.post s.now future.moment };
 
     fn call(&self, request: Request<Incoming<I>>) -> Self::Future {
         let moment = (self.now)();
