@@ -7,7 +7,8 @@ use Rattle.fp_base.proofs.Known.{Appends-nil, Appends-more}
 use Rattle.fp_group_commit.specs.Tokens.{FrontState, Identity, front_revision}
 use Rattle.fp_session.specs.Asks.{Ask}
 use Rattle.fp_session.specs.Sources.{HasAsked}
-use Rattle.fp_conversations.specs.Answers.{Answer, AreAnswersTo, IsAnswerTo, IsShownAs, IsWithin, revision_in, answer_text, texts_of, says_no_edit}
+use Rattle.fp_conversations.specs.Answers.{Answer, AreAnswersTo, IsAnswerTo, IsShownAs, IsWithin, revision_in, answer_text}
+use Rattle.fp_conversations.specs.Answers.{texts_of, says_no_edit}
 use Rattle.fp_conversations.specs.Editing.{IsNoLess, IsServed}
 
 -- ---- answers, one behind the other

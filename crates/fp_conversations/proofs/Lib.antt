@@ -1,3 +1,4 @@
 mod AnswerLemmas
 mod EditingLemmas
+mod OutcomeLemmas
 mod SendingLemmas

@@ -1,11 +1,17 @@
--- What becomes of an edit that an editor hands in.
-use Rattle.std.specs.Prelude.{◌≡◌, ◌≤◌, Option, Some, None}
-use Rattle.fp_edit.specs.Edits.{Proposal}
+-- What a line of an editor comes to, and what becomes of an edit that it hands in.
+use Rattle.std.specs.Prelude.{◌≡◌, ◌≤◌, Option, Some, None, Result, Ok, Err}
+use Rattle.fp_edit.specs.Edits.{Proposal, proposal_of}
+use Rattle.fp_edit.specs.declared.edit.Edit.{Edit}
+use Rattle.fp_edit.specs.declared.line.LineFault.{LineFault}
 use Rattle.fp_group_commit.specs.Tokens.{FrontState, Identity, front_revision}
 use Rattle.fp_session.specs.Reply as flags
+use Rattle.fp_session.specs.Reply.{reply_of_code}
+use Rattle.fp_session.specs.declared.reply.Reply.TheVariants as code
 use Rattle.fp_conversations.specs.Answers.{Answer, answer_to_refusal, reply}
-use Rattle.fp_conversations.specs.declared.editor.Outcome.{Outcome}
-use Rattle.fp_conversations.specs.declared.editor.Outcome.TheVariants.{Kept, Refused, Unknown}
+use Rattle.fp_conversations.specs.declared.answer.Answered.{Answered}
+use Rattle.fp_conversations.specs.declared.answer.Answered.TheVariants as came
+use Rattle.fp_conversations.specs.declared.answer.Outcome.{Outcome}
+use Rattle.fp_conversations.specs.declared.answer.Outcome.TheVariants.{Kept, Refused, Unknown}
 
 -- it is of this edit, by its ticket or by its refusal
 abbrev pub IsOutcomeOf : Proposal → Outcome → Type 0
@@ -31,3 +37,28 @@ abbrev pub told_by : Outcome → Option FrontState
 told_by (Kept ticket told) = Some told
 told_by (Refused refusal) = None
 told_by (Unknown given_up) = None
+
+-- ---- a line
+
+-- an edit comes to what became of that edit, and a line that is no edit to
+-- the reply that says why: nothing else
+abbrev pub ComesTo : Result Edit LineFault → Answered → Type 0
+ComesTo (Ok edit) (came.Edit outcome) = IsOutcomeOf (proposal_of edit) outcome
+ComesTo (Ok edit) (came.NoEdit said) = ⊥
+ComesTo (Err fault) (came.Edit outcome) = ⊥
+ComesTo (Err fault) (came.NoEdit said) = said ≡ code.NoEdit fault
+
+-- what is told of it is of this store, and has its revision
+abbrev pub IsToldOf : Identity → Answered → Type 0
+IsToldOf store (came.Edit outcome) = IsToldBy store outcome
+IsToldOf store (came.NoEdit said) = Unit {0}
+
+-- what it is answered
+abbrev pub answer_to_line : Answered → Answer
+answer_to_line (came.Edit outcome) = answer_to_outcome outcome
+answer_to_line (came.NoEdit said) = reply (reply_of_code said)
+
+-- and what was told with it
+abbrev pub told_of : Answered → Option FrontState
+told_of (came.Edit outcome) = told_by outcome
+told_of (came.NoEdit said) = None

@@ -9,19 +9,15 @@ ghost use Rattle.fp_session.specs.Progress.{AsksFor};
 ghost use Rattle.fp_session.specs.Requests.{IsHttpRequest, first_line};
 ghost use Rattle.fp_streams.specs.Failures.{CountsFailures};
 ghost use Rattle.fp_streams.specs.declared.counted.StreamFault.TheVariants.{Device};
-ghost use Rattle.fp_edit.specs.Edits.{proposal_of};
-ghost use Rattle.fp_conversations.specs.Answers.{IsAnswerTo, IsWithin, answer_of_code, answer_to_refusal};
-ghost use Rattle.fp_conversations.specs.Outcomes.{IsOutcomeOf, IsToldBy, answer_to_outcome, told_by};
 ghost use Rattle.fp_conversations.specs.Editing.{Ends, IsNoLess, IsServed, IsServedFirst};
 ghost use Rattle.fp_conversations.specs.declared.editor.EditorEnd.TheVariants.{HttpRequest};
 
-use crate::answer::{Answer, send_answer};
-use fp_desk::{SubmitFault, Ticket};
+use crate::answer::answer_line;
 use fp_disk::Disk;
-use fp_edit::{Edit, EditFault, LineFault};
+use fp_edit::{Edit, LineFault};
 use fp_group_commit::Told;
-use fp_plane::{GivenUp, Naming, Refusal, SealingPlane};
-use fp_session::{EditSource, InputLines, Reply};
+use fp_plane::{Naming, SealingPlane};
+use fp_session::{EditSource, InputLines};
 use fp_streams::{FailureCounted, StreamFault};
 use log::Log;
 use std::alloc::Global;
@@ -186,91 +182,13 @@ where
     ensures fault { IfErr result (λ f. f ≡ Device) }
     ensures counted { CountsFailures w.old.failures w.new.failures result }
 {
-    let (answer, more) = answer_to(plane, asked);
-    keep_greater(told, more);
-    send_answer(alloc, w, &answer)?;
+    let (answered, sent) = answer_line(plane, alloc, asked, w);
+    keep_greater(told, answered.into_told());
+    sent?;
 
     // What a compaction is owed is no part of its editor's wait.
     plane.go_on();
     Ok(())
-}
-
-// The answer to what a line asks, and what was told of its edit.
-fn answer_to<K, D, R>(
-    plane: &SealingPlane<K, D, R>,
-    asked: Result<Edit, LineFault>,
-) -> (Answer, Option<Told>)
-where
-    K: Naming,
-    D: Disk + Drop,
-    R: Wait + Clock + Log + Drop,
-    ensures answer { (x : Ask) → AsksFor asked x → IsAnswerTo x (answer_of_code result.0) }
-    ensures within { IsWithin result.1 (answer_of_code result.0) }
-    ensures ours { IfSome result.1 (λ t. t.store ≡ K.store) }
-{
-    match asked {
-        Ok(edit) => answer_of(outcome_of(plane, edit)),
-        Err(fault) => (Answer::Flags(Reply::NoEdit(fault)), None),
-    }
-}
-
-// What became of an edit: it is kept, wasn't taken, or isn't known to be kept. Each is of that edit,
-// by what alone could tell it: its ticket, or what a hall makes of its refusal or of its ticket.
-enum Outcome {
-    Kept(Ticket, Told),
-    Refused(Refusal),
-    Unknown(GivenUp),
-}
-
-// Waits for what becomes of an edit.
-fn outcome_of<K, D, R>(plane: &SealingPlane<K, D, R>, edit: Edit) -> Outcome
-where
-    K: Naming,
-    D: Disk + Drop,
-    R: Wait + Clock + Log + Drop,
-    // What became of the edit is of that edit: kept, by its ticket; not taken, by the refusal
-    // that a hall made of it; or not known to be kept, by its ticket, which a hall gave up.
-    ensures own { IsOutcomeOf (proposal_of edit) result }
-    // Where it is kept, what is told is of the plane's store and has at least its ticket's
-    // revision.
-    ensures ours { IsToldBy K.store result }
-{
-    let ticket = match plane.submit(edit) {
-        Ok(ticket) => ticket,
-        Err((refusal, _)) => return Outcome::Refused(refusal),
-    };
-    match plane.plane().wait(ticket) {
-        Ok((ticket, told, _)) => Outcome::Kept(ticket, told),
-        Err(given_up) => Outcome::Unknown(given_up),
-    }
-}
-
-// The answer to an edit of which this became, and what was told.
-fn answer_of(outcome: Outcome) -> (Answer, Option<Told>)
-    // Its ticket's revision, why it was refused, or `store-failed`.
-    ensures answer { answer_of_code result.0 ≡ answer_to_outcome outcome }
-    ensures told { result.1 ≡ told_by outcome }
-{
-    match outcome {
-        Outcome::Kept(ticket, told) => {
-            let reply = Reply::Revision(ticket.revision());
-            (Answer::Flags(reply), Some(told))
-        }
-        Outcome::Refused(refusal) => (answer_to_refused(refusal.fault()), None),
-        Outcome::Unknown(_) => (Answer::Flags(Reply::StoreFailed), None),
-    }
-}
-
-// The answer to an edit that wasn't taken: why.
-fn answer_to_refused(fault: SubmitFault) -> Answer
-    ensures { answer_of_code result ≡ answer_to_refusal fault }
-{
-    match fault {
-        SubmitFault::Stopped => Answer::Stopped,
-        SubmitFault::QueueFull => Answer::QueueFull,
-        SubmitFault::Edit(fault) => Answer::Flags(Reply::Refused(fault)),
-        SubmitFault::Memory => Answer::Flags(Reply::Refused(EditFault::Memory)),
-    }
 }
 
 // Keeps the greater of what was told.
