@@ -1,6 +1,6 @@
 -- How a service ends, of what its store is.
-use Rattle.std.proofs.Common.{◌≡◌, ◌≢◌, ◌⊎◌, ◌+◌, ℕ, List, [], ◌∷◌, ◌++◌, length, Ok, Err, inl, inr, ⊎_elim, refl, sym}
-use Rattle.std.proofs.Common.{ap, subst, ◌∙◌, append-nil}
+use Rattle.std.proofs.Common.{◌≡◌, ◌≢◌, ◌⊎◌, ◌+◌, ◌<◌, ℕ, List, [], ◌∷◌, ◌++◌, length, Ok, Err, inl, inr, ⊎_elim, refl, sym}
+use Rattle.std.proofs.Common.{ap, subst, ◌∙◌, append-nil, arith}
 use Rattle.std.specs.Prelude.{Option, Some, codes, decimal}
 use Rattle.std.specs.Net.Text.{socket_text}
 use Rattle.std.specs.declared.net.socket_addr.SocketAddr.{SocketAddr}
@@ -25,9 +25,12 @@ use Rattle.fp_group_commit.specs.Tokens.{Identity}
 use Rattle.fp_group_commit.specs.declared.phase.Phase.TheVariants.{Idle}
 use Rattle.fp_plane.specs.Flushing.{Flushes}
 use Rattle.fp_recovery.specs.Stands.{StandsFor}
+use Rattle.fp_streams.specs.Failures.{CountsFailures, Stream}
 use Rattle.fp_streams.specs.Said.{AppendsLine}
+use Rattle.fp_streams.specs.declared.counted.StreamFault.{StreamFault}
+use Rattle.fp_streams.specs.declared.counted.StreamFault.TheVariants as stream
 use Rattle.fp_server.specs.Attends.{Serves}
-use Rattle.fp_server.specs.Ends.{EndsBadly, EndsWell, HasBroken, IsAttendingFault, IsBack, IsBrokenOff, IsBrokenStore}
+use Rattle.fp_server.specs.Ends.{BlamesStreams, EndsBadly, EndsWell, HasBroken, IsAttendingFault, IsBack, IsBrokenOff, IsBrokenStore}
 use Rattle.fp_server.specs.Ends.{IsServedStore, IsServingFault, SaysAll, SaysWhere, broken_off, line, where_text}
 
 pub says_where : (a b c d : Option (List ℕ)) (x y z : SocketAddr) →
@@ -138,6 +141,15 @@ pub attending_calm : (f : CommandFault) → IsAttendingFault f → f ≢ StoreFa
 attending_calm f (inl device) is = let both : Device ≡ StoreFailed = sym device ∙ is in absurd cc
 attending_calm f (inr memory) is = let both : Memory ≡ StoreFailed = sym memory ∙ is in absurd cc
 
+-- the writer failed, and neither stream had before
+pub blames_writer : {R W : Type 0} (r0 r : Stream R) (w0 w1 w : Stream W) (f : StreamFault) → f ≡ stream.Device →
+    r.failures + w1.failures ≡ r0.failures + w0.failures → CountsFailures {A = Unit {0}} w1.failures w.failures (Err f) →
+    BlamesStreams (record { reader = r0; writer = w0 }) (record { reader = r; writer = w })
+blames_writer r0 r w0 w1 w f is same counted =
+    let more : w1.failures < w.failures =
+    subst (λ (f : StreamFault). CountsFailures {A = Unit {0}} w1.failures w.failures (Err f)) is counted in
+    inr (omega (arith, same, more))
+
 -- what a service comes to, whose disk was opened at this path alone
 module _ {F D R W : Type 0} (files : FileGhosts F D) (disk : DiskGhosts D) (remaining : R → Option (List ℕ))
     (contents : W → Option (List ℕ)) (old new : Environment F R W) (path : List ℕ)
@@ -146,9 +158,11 @@ module _ {F D R W : Type 0} (files : FileGhosts F D) (disk : DiskGhosts D) (rema
   pub serves_well : IsAtEnd (remaining new.reader.inner) →
       EndsWell files disk old.files new.files path (contents old.writer.inner) (contents new.writer.inner) →
       Serves files disk remaining contents old new path (Ok tt)
-  serves_well ended ends = record { well = ends; ended = ended; badly = tt; calm = tt; asked = asked; others = others }
+  serves_well ended ends = record { well = ends; ended = ended; badly = tt; calm = tt; blames = tt; asked = asked; others = others }
 
   pub serves_badly : (f : CommandFault) → EndsBadly files disk old.files new.files path f →
       (f ≡ StoreFailed → failures (streams_of new) ≡ failures (streams_of old)) →
+      (f ≢ StoreFailed → BlamesStreams (streams_of old) (streams_of new)) →
       Serves files disk remaining contents old new path (Err f)
-  serves_badly f ends calm = record { well = tt; ended = tt; badly = ends; calm = calm; asked = asked; others = others }
+  serves_badly f ends calm blames =
+      record { well = tt; ended = tt; badly = ends; calm = calm; blames = blames; asked = asked; others = others }

@@ -1,5 +1,5 @@
 -- What a task of the service comes to: what it leaves, its status and what is told of its end.
-use Rattle.std.specs.Prelude.{◌≡◌, ◌≤◌, ◌⊎◌, ◌++◌, ℕ, List, [], ◌∷◌, Option, Some, Result, Err, OnOk, IfErr}
+use Rattle.std.specs.Prelude.{◌≡◌, ◌≢◌, ◌≤◌, ◌⊎◌, ◌++◌, ℕ, List, [], ◌∷◌, Option, Some, Result, Err, OnOk, IfErr}
 use Rattle.std.specs.Io.KnownBytes.{Appends, IsAtEnd}
 use Rattle.fp_commands.specs.Faults.{fault_text}
 use Rattle.fp_commands.specs.Files.{Environment, failures, streams_of}
@@ -17,7 +17,7 @@ use Rattle.fp_stream.specs.declared.hello.Hello.TheVariants.{Nothing}
 use Rattle.fp_stream.specs.declared.watch.WatchFault.{WatchFault}
 use Rattle.fp_stream.specs.declared.watch.WatchFault.TheVariants.{Device}
 use Rattle.fp_streams.specs.Failures.{Stream}
-use Rattle.fp_server.specs.Ends.{EndsBadly, EndsWell}
+use Rattle.fp_server.specs.Ends.{BlamesStreams, EndsBadly, EndsWell}
 use Rattle.fp_server.specs.declared.task.Task.{Task}
 use Rattle.fp_server.specs.declared.task.Task.TheVariants.{Serve, Watch}
 
@@ -47,6 +47,9 @@ pub record Serves {F D R W : Type 0} (files : FileGhosts F D) (disk : DiskGhosts
   -- `StoreFailed` only where neither the reader nor the writer failed.
   pub calm : IfErr outcome (λ f. f ≡ StoreFailed
       → failures (streams_of new) ≡ failures (streams_of old))
+  -- Any other fault: the reader and the writer are as they were, so that nothing was said, or one of
+  -- them failed.
+  pub blames : IfErr outcome (λ f. f ≢ StoreFailed → BlamesStreams (streams_of old) (streams_of new))
   -- This path alone is asked for, once, to be written, which wants its lock.
   pub asked : files.asked new.files ≡ files.asked old.files ++ (path, Writing) ∷ []
   -- At each other path stays what was there.

@@ -12,6 +12,7 @@ use Rattle.fp_edit.specs.Log.{after_all}
 use Rattle.fp_commands.specs.declared.fault.CommandFault.{CommandFault}
 use Rattle.fp_commands.specs.declared.fault.CommandFault.TheVariants.{Device, StoreFailed, Memory}
 use Rattle.fp_commands.specs.Disks.{IsOnlyRead, IsShowingFault}
+use Rattle.fp_commands.specs.Files.{Streams, failures}
 use Rattle.fp_files.specs.Openings.{KeepsAll}
 use Rattle.fp_files.specs.declared.files.DiskFiles.{Ghosts as FileGhosts}
 use Rattle.fp_recovery.specs.Stands.{StandsFor}
@@ -132,6 +133,10 @@ IsAttendingFault f = (f ≡ Device) ⊎ (f ≡ Memory)
 -- and those of a store that is served
 abbrev pub IsServingFault : CommandFault → Type 0
 IsServingFault f = IsAttendingFault f ⊎ (f ≡ StoreFailed)
+
+-- by a fault that isn't the store's: neither stream was touched, or one of them failed
+abbrev pub BlamesStreams : {R W : Type 0} → (old new : Streams R W) → Type 0
+BlamesStreams old new = (new ≡ old) ⊎ (failures old < failures new)
 
 -- it ended by a fault
 pub data EndsBadly {F D : Type 0} (files : FileGhosts F D) (disk : DiskGhosts D) (old new : F)

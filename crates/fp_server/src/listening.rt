@@ -2,7 +2,7 @@
 
 ghost use Rattle.std.specs.Prelude.{◌≡◌};
 
-use crate::connections::{Connections, Place};
+use crate::connections::{AllClosed, Connections, Place};
 use crate::ended::{Ended, tell_fault};
 use crate::lingering::linger;
 use crate::roles::{Role, converse};
@@ -12,6 +12,7 @@ use fp_http::TimeLimits;
 use fp_log::{Event, Port, Source, tell, tell_failure};
 use fp_plane::{Naming, SealingPlane};
 use std::net::{Shutdown, SocketAddr, SocketAddrV4, TcpListener, TcpStream};
+use std::thread::JoinHandle;
 use std::time::Duration;
 use std::{io, thread};
 
@@ -63,8 +64,9 @@ impl<R: Host> Listening<R> {
         let own = self.rt;
         let role = self.role;
         let limits = self.limits;
-        let started = thread::spawn(&self.rt, move || {
-            accept(&own, &listener, role, limits, &connections, &plane);
+        // It ends by what only closed connections give.
+        let started: Result<JoinHandle<AllClosed>, _> = thread::spawn(&self.rt, move || {
+            accept(&own, &listener, role, limits, &connections, &plane)
         });
         match started {
             Ok(_thread) => Ok(()),
@@ -124,7 +126,7 @@ fn accept<K, D, R>(
     limits: TimeLimits,
     connections: &Connections<R>,
     plane: &SealingPlane<K, D, R>,
-)
+) -> AllClosed
 where
     K: Naming + Send + Sync + 'static,
     D: Disk + Drop + Send + 'static,
@@ -133,8 +135,8 @@ where
     let mut is_told = false;
     for _ in rt.forever() {
         let accepted = listener.accept();
-        if connections.is_closed() {
-            return;
+        if let Some(closed) = connections.closed() {
+            return closed;
         }
         match accepted {
             Ok((stream, peer)) => {
@@ -153,6 +155,7 @@ where
             }
         }
     }
+    unreachable!()
 }
 
 fn tell_not_accepted<R: Host>(rt: &R, reason: &io::Error) {

@@ -3,7 +3,8 @@
 ghost use Rattle.std.specs.Prelude.{◌≡◌, ◌+◌, IfErr, OnOk};
 ghost use Rattle.std.specs.Io.KnownBytes.{Appends, IsAtEnd};
 ghost use Rattle.fp_streams.specs.Failures.{CountsFailures};
-ghost use Rattle.fp_server.specs.Ends.{IsAttendingFault, SaysWhere, where_text};
+ghost use Rattle.fp_streams.specs.declared.counted.StreamFault.TheVariants.{Device};
+ghost use Rattle.fp_server.specs.Ends.{BlamesStreams, IsAttendingFault, SaysWhere, where_text};
 
 use crate::listening::Listening;
 use crate::roles::Role;
@@ -77,6 +78,9 @@ impl<R: Host> Services<R> {
         ensures fault { IfErr result IsAttendingFault }
         ensures calm { OnOk result (r.new.failures + w.new.failures
             ≡ r.old.failures + w.old.failures) }
+        ensures blames { IfErr result (λ _. BlamesStreams
+            (record { reader = r.old; writer = w.old })
+            (record { reader = r.new; writer = w.new })) }
     {
         if let Err(fault) = self.start(plane) {
             return Err(fault_of(&fault));
@@ -98,6 +102,7 @@ impl<R: Host> Services<R> {
     fn say_where<O: Write>(&self, w: &mut FailureCounted<O>) -> Result<(), StreamFault>
         ensures said { OnOk result (Appends (O.contents w.old.inner) (O.contents w.new.inner)
             (where_text self.now.ofrep.bound self.now.edit.bound self.now.stream.bound)) }
+        ensures fault { IfErr result (λ f. f ≡ Device) }
         ensures counted { CountsFailures w.old.failures w.new.failures result }
     {
         w.say(&format_args!("ofrep {}", self.ofrep.bound()))?;
@@ -129,6 +134,7 @@ impl<R: Host> Services<R> {
 // Reads an input to its end.
 fn await_end<I: Read>(r: &mut FailureCounted<I>) -> Result<(), StreamFault>
     ensures ended { OnOk result (IsAtEnd (I.remaining r.new.inner)) }
+    ensures fault { IfErr result (λ f. f ≡ Device) }
     ensures counted { CountsFailures r.old.failures r.new.failures result }
 {
     let mut bytes = [0; 512];

@@ -1,8 +1,10 @@
 //! A store over sockets, from its opening to its end.
 
-ghost use Rattle.std.specs.Prelude.{◌≡◌, ◌+◌, ◌<◌, ◌^◌, [], IfOk, IfErr, Ok, OnOk, codes};
+ghost use Rattle.std.specs.Prelude.{◌≡◌, ◌≢◌, ◌+◌, ◌-◌, ◌/◌, ◌<◌, ◌^◌, [], IfOk, IfErr, Ok, OnOk};
+ghost use Rattle.std.specs.Prelude.{codes, min};
 ghost use Rattle.std.specs.FinMap as map;
 ghost use Rattle.std.specs.Io.KnownBytes.{IsAtEnd};
+ghost use Rattle.std.specs.Time.{system_time_nanos};
 ghost use Rattle.fp_commands.specs.declared.fault.CommandFault.TheVariants.{StoreFailed};
 ghost use Rattle.fp_committer.specs.Course.{GoesThrough};
 ghost use Rattle.fp_group_commit.specs.Store.{IsAtRest, IsFresh};
@@ -10,7 +12,7 @@ ghost use Rattle.fp_plane.specs.Flushing.{Flushes, IsResting};
 ghost use Rattle.fp_plane.specs.Hall.{IsDeskOf, IsNewDesk, IsStoreOf};
 ghost use Rattle.fp_log.specs.Events.{name_of, opening_text, text_of};
 ghost use Rattle.fp_server.specs.Attends.{Serves};
-ghost use Rattle.fp_server.specs.Ends.{IsBrokenOff, IsBrokenStore, IsServedStore};
+ghost use Rattle.fp_server.specs.Ends.{BlamesStreams, IsBrokenOff, IsBrokenStore, IsServedStore};
 ghost use Rattle.fp_server.specs.Ends.{IsServingFault, SaysWhere};
 
 use crate::services::{Addresses, Services, fault_of};
@@ -43,6 +45,13 @@ pub fn moment<R: Clock>(rt: &R) -> u64
     let Ok(now) = SystemTime::now(rt) else {
         return 0;
     };
+    moment_at(now)
+}
+
+// The whole seconds from 1970 to this time, and at most the last moment that a reply knows.
+fn moment_at(now: SystemTime) -> u64
+    ensures { result ≡ min (system_time_nanos now / 1_000_000_000) (2 ^ 63 - 1) }
+{
     match now.duration_since(UNIX_EPOCH) {
         Ok(since) => since.as_secs().min(LAST_MOMENT),
         Err(_) => 0,
@@ -152,8 +161,12 @@ where
     ensures fault { IfErr result (λ e. IsServingFault e.0) }
     ensures said { OnOk result (SaysWhere (O.contents w.old.inner) (O.contents w.new.inner)) }
     ensures ended { OnOk result (IsAtEnd (I.remaining r.new.inner)) }
+    ensures unfailed { OnOk result (r.new.failures + w.new.failures
+        ≡ r.old.failures + w.old.failures) }
     ensures calm { IfErr result (λ e. e.0 ≡ StoreFailed → r.new.failures + w.new.failures
         ≡ r.old.failures + w.old.failures) }
+    ensures blames { IfErr result (λ e. e.0 ≢ StoreFailed → BlamesStreams
+        (record { reader = r.old; writer = w.old }) (record { reader = r.new; writer = w.new })) }
 {
     untouched(&store);
     let (desk, half) = match DeskHalf::pair(rt.alloc(), store, opening) {
@@ -222,8 +235,12 @@ where
     ensures fault { IfErr result (λ e. IsServingFault e.0) }
     ensures said { OnOk result (SaysWhere (O.contents w.old.inner) (O.contents w.new.inner)) }
     ensures ended { OnOk result (IsAtEnd (I.remaining r.new.inner)) }
+    ensures unfailed { OnOk result (r.new.failures + w.new.failures
+        ≡ r.old.failures + w.old.failures) }
     ensures calm { IfErr result (λ e. e.0 ≡ StoreFailed → r.new.failures + w.new.failures
         ≡ r.old.failures + w.old.failures) }
+    ensures blames { IfErr result (λ e. e.0 ≢ StoreFailed → BlamesStreams
+        (record { reader = r.old; writer = w.old }) (record { reader = r.new; writer = w.new })) }
 {
     still(&half);
     let (plane, flushed) = match planes::<K, D, R>(rt, desk) {
@@ -294,8 +311,12 @@ where
     ensures fault { IfErr result (λ e. IsServingFault e.0) }
     ensures said { OnOk result (SaysWhere (O.contents w.old.inner) (O.contents w.new.inner)) }
     ensures ended { OnOk result (IsAtEnd (I.remaining r.new.inner)) }
+    ensures unfailed { OnOk result (r.new.failures + w.new.failures
+        ≡ r.old.failures + w.old.failures) }
     ensures calm { IfErr result (λ e. e.0 ≡ StoreFailed → r.new.failures + w.new.failures
         ≡ r.old.failures + w.old.failures) }
+    ensures blames { IfErr result (λ e. e.0 ≢ StoreFailed → BlamesStreams
+        (record { reader = r.old; writer = w.old }) (record { reader = r.new; writer = w.new })) }
 {
     let mut services = services;
     let attended = services.attend(plane, r, w);

@@ -1,4 +1,4 @@
-use Rattle.std.proofs.Common.{◌≡◌, ◌≢◌, Err, inl, sym, subst, ◌∙◌, ap}
+use Rattle.std.proofs.Common.{◌≡◌, ◌≢◌, Err, inl, refl, sym, subst, ◌∙◌, ap}
 use Rattle.std.proofs.lemmas.Result.{err_from_is_err_and}
 use Rattle.fp_commands.specs.declared.fault.CommandFault.{CommandFault}
 use Rattle.fp_commands.specs.declared.fault.CommandFault.TheVariants.{Device, StoreFailed}
@@ -8,7 +8,7 @@ use Rattle.fp_commands.proofs.Opened.{only_read}
 use Rattle.fp_commands.proofs.Told.{open_not_failed, showing-open}
 use Rattle.fp_server.specs.Attends.{Serves}
 use Rattle.fp_server.specs.Ends.{IsServingFault, unserved}
-use Rattle.fp_server.proofs.EndsLemmas.{attending_calm, ends_well, ends_broken, says_all, served_broken, serves_badly}
+use Rattle.fp_server.proofs.EndsLemmas.{attending_calm, blames_writer, ends_well, ends_broken, says_all, served_broken, serves_badly}
 use Rattle.fp_server.proofs.EndsLemmas.{serves_well, untouched_store}
 use Rattle.fp_server.proofs.serving.serve.Goals as goal
 
@@ -31,7 +31,7 @@ returns-in-Err g c =
       back = λ h. c.close.ensures.kept o.lent h;
       read = only_read D before c.in-Err.disk c.in-Err.ensures.same c.in-Err.ensures.any_moment c.in-Err.ensures.called;
       fault = showing-open (D.honest before) (D.bytes before) fault c.in-Err.ensures.fault c.in-Err.ensures.refused;
-    })) (λ is. absurd (open_not_failed fault is)))
+    })) (λ is. absurd (open_not_failed fault is)) (λ _. inl refl))
 
 -- an address wasn't bound
 pub returns-in-Err-bind : goal.returns-in-Err-bind
@@ -45,7 +45,7 @@ returns-in-Err-bind g c =
     c.into_disk.result t t o.found e.stands e.any_moment e.honest e.no_failure
     c.into_disk.ensures.disk c.into_disk.ensures.outcomes (λ h. back.kept o.lent h) f (inl c.fault_of.ensures)
     (untouched_store D t c.untouched.ensures f never))
-    (λ is. absurd (never is))
+    (λ is. absurd (never is)) (λ _. inl refl)
 
 -- the end wasn't told
 pub returns-in_err-say-in-Ok-serve_store : goal.returns-in_err-say-in-Ok-serve_store
@@ -63,7 +63,10 @@ returns-in_err-say-in-Ok-serve_store g c =
     (ends_broken g.F.DiskFiles D c.args.files.now c.close-in-Ok-serve_store.new.self c.args.path.now
     c.in_ok-disk.disk c.into_disk-in-Ok-serve_store.result t s o.found e.stands e.any_moment e.honest e.no_failure
     given.disk given.outcomes (λ h. back.kept o.lent h) p.0 is (served_broken D t s c.in-Ok-serve_store.ensures.well.0 p.0 never))
-    (λ failed. absurd (never failed)))
+    (λ failed. absurd (never failed))
+    (λ _. blames_writer c.args.r.now c.serve_store.new.r c.args.w.now c.serve_store.new.w c.say.new.self
+    c.in_err-say-in-Ok-serve_store.field-0.0 c.in_err-say-in-Ok-serve_store.ensures.fault c.in-Ok-serve_store.ensures.unfailed
+    c.in_err-say-in-Ok-serve_store.ensures.counted))
 
 -- it ended well
 pub returns-in_ok-say-in-Ok-serve_store : goal.returns-in_ok-say-in-Ok-serve_store
@@ -92,4 +95,4 @@ returns-in-Err-serve_store g c =
     c.in_ok-disk.disk c.into_disk-in-Err-serve_store.result t c.in-Err-serve_store.store o.found e.stands
     e.any_moment e.honest e.no_failure
     given.disk given.outcomes (λ h. back.kept o.lent h) c.in-Err-serve_store.fault broken.fault broken.broken)
-    broken.calm
+    broken.calm broken.blames
