@@ -82,7 +82,7 @@ module _ {D : Type 0} (disk : Ghosts D) (store : Identity) (desk_lists store_lis
       cause = λ bad. ⊎_elim (λ more. inl (rw (← w.no_failure refl) more)) (λ full. inr full) cause;
     }
 
-    left_by : {A : Type 0} (ended : Result A Broken) → OnOk ended (IsResting n)
+    left_by : {A E : Type 0} (ended : Result A E) → OnOk ended (IsResting n)
         → OnOk ended (disk.faults n.store.disk ≡ disk.faults a.store.disk)
         → OnErr ended ((disk.faults a.store.disk < disk.faults n.store.disk) ⊎ LacksRoom disk n)
         → Left n (is_err ended) began
@@ -90,8 +90,8 @@ module _ {D : Type 0} (disk : Ghosts D) (store : Identity) (desk_lists store_lis
     left_by (Err e) rest same cause = left_badly cause
 
   -- who took the lock sealed, or broke off
-  pub left_then : {A : Type 0} (a n : StoreHalfState D) (began : List (StoreHalfState D))
-      (was now : Bool) (ended : Result A Broken) → Left a was began → was ≡ false → Course disk a n
+  pub left_then : {A E : Type 0} (a n : StoreHalfState D) (began : List (StoreHalfState D))
+      (was now : Bool) (ended : Result A E) → Left a was began → was ≡ false → Course disk a n
       → OnOk ended (IsResting n)
       → OnOk ended (disk.faults n.store.disk ≡ disk.faults a.store.disk)
       → OnErr ended ((disk.faults a.store.disk < disk.faults n.store.disk) ⊎ LacksRoom disk n)

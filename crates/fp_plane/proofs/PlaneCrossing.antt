@@ -11,6 +11,7 @@ use Rattle.fp_disk.specs.declared.disk.Disk as disk
 use Rattle.fp_fronts.proofs.growing.Growing.TheSendSync as growing
 use Rattle.fp_plane.proofs.Crossing.{desk_half_sent}
 use Rattle.fp_plane.proofs.bells.Bells.TheSendSync as bells
+use Rattle.fp_plane.proofs.flushing.Broken.TheSendSync as broken
 use Rattle.fp_plane.proofs.gathering.Gathering.TheSendSync as gathering
 use Rattle.fp_plane.proofs.hall.tokens.AllSettled.TheSendSync as all_settled
 use Rattle.fp_plane.proofs.PublishCrossing.{board_sent, evaluator_sent, seats_sent}
@@ -39,7 +40,8 @@ own_half_sent D d sd = let T = own_half_inside.the_type D d in
 
 pub flushed_sent : (D : RattleType) (d : disk.Ghosts D.Denot) → IsSend D → IsSend (flushed.the_row D d)
 flushed_sent D d sd = let T = flushed.the_type D d in
-    recorded_send _ _ _ T.to_one (struct_send (shape T) (own_half_sent D d sd, search (sendable, all_settled.the_send) depth 20))
+    recorded_send _ _ _ T.to_one
+    (struct_send (shape T) (own_half_sent D d sd, search (sendable, all_settled.the_send, broken.the_send) depth 20))
 
 module _ (K R : RattleType) (k : naming.Ghosts K.Denot) (sr : IsSend R) where
   hall_sent : IsSend (hall.the_row K R k)
@@ -96,7 +98,7 @@ module _ (K D : RattleType) (k : naming.Ghosts K.Denot) (d : disk.Ghosts D.Denot
       view_send _ _ _ _ _ (recorded_send _ _ _ T.to_one (struct_send (shape T) (
         store_half_sent D d sd,
         (
-          search sendable,
+          search (sendable, broken.the_send) depth 10,
           (
             gathering.the_field_send,
             (search sendable, (search (sendable, growing.the_send) depth 10, (phantom.the_field_send K, tt))),

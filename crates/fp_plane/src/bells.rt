@@ -1,6 +1,6 @@
 //! Where editors wait until they are told of their edits.
 
-ghost use Rattle.std.specs.Prelude.{◌≡◌, vec_len};
+ghost use Rattle.std.specs.Prelude.{◌≡◌, ◌-◌, min, vec_len};
 ghost use Rattle.fp_plane.specs.declared.bells.TheConstants.{BELLS};
 
 use std::alloc::{AllocError, Global};
@@ -34,13 +34,22 @@ impl Bells {
 
     /// Wakes who waits for one of the revisions behind one, up to the last.
     pub fn ring(&self, behind: u64, last: u64) {
-        for n in 0..last.saturating_sub(behind).min(BELLS as u64) {
+        for n in 0..bells_between(behind, last) {
             self.of(last.wrapping_sub(n)).notify_all();
         }
     }
 
     /// Wakes all who wait.
     pub fn ring_all(&self) {
-        self.ring(0, BELLS as u64);
+        for bell in &self.bells {
+            bell.notify_all();
+        }
     }
+}
+
+// How many bells are rung for the revisions behind one, up to the last: one for each, and none twice.
+fn bells_between(behind: u64, last: u64) -> u64
+    ensures { result ≡ min (last - behind) BELLS }
+{
+    last.saturating_sub(behind).min(BELLS as u64)
 }

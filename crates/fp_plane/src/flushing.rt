@@ -14,7 +14,7 @@ ghost use Rattle.fp_plane.specs.Hall.{IsStoreOf};
 ghost use Rattle.fp_plane.specs.declared.flushing.Lull.TheVariants.{Alone};
 
 use crate::gathering::{Gathering, Sealing};
-use crate::hall::{AllSettled, Refusal};
+use crate::hall::{AllSettled, Hall, Refusal};
 use crate::naming::Naming;
 use crate::owned::OwnHalf;
 use crate::pausing::pause;
@@ -28,12 +28,20 @@ use fp_edit::Edit;
 use fp_fronts::Front;
 use fp_log::{Event, tell};
 use log::Log;
-use std::sync::Wait;
+use std::sync::{MutexGuard, Wait};
 use std::time::Clock;
 
-/// The device failed, or there is no room for what was drawn and no generation to make it.
+/// That sealing broke off, and the hall and all who wait were told: the device failed, or there is no
+/// room for what was drawn and no generation to make it. `Plane::break_off` makes one, and nothing else
+/// does.
 #[derive(Debug, Drop, Clone, Copy, PartialEq, Eq)]
-pub struct Broken;
+pub struct Broken {
+    of: (),
+}
+
+/// That sealing failed, for one of these two reasons, and the hall isn't told yet.
+#[derive(Debug, Drop, Clone, Copy, PartialEq, Eq)]
+pub(crate) struct UntoldFailure;
 
 /// What a flusher gives back: the store's half, and that all that was taken is settled, or that
 /// sealing broke off.
@@ -85,7 +93,7 @@ pub(crate) fn flush_while_busy<K, D, R>(
     half: &mut StoreHalf<D>,
     gathering: &mut Gathering,
     owes_step: &mut bool,
-) -> Result<Lull, Broken>
+) -> Result<Lull, UntoldFailure>
 where
     K: Naming,
     D: Disk,
@@ -126,7 +134,7 @@ pub(crate) fn submit_and_flush<K, D, R>(
     gathering: &mut Gathering,
     owes_step: &mut bool,
     edit: Edit,
-) -> (Result<Ticket, (Refusal, Edit)>, Result<(), Broken>)
+) -> (Result<Ticket, (Refusal, Edit)>, Result<(), UntoldFailure>)
 where
     K: Naming,
     D: Disk,
@@ -159,7 +167,7 @@ fn flush<K, D, R>(
     plane: &Plane<K, R>,
     half: &mut StoreHalf<D>,
     gathering: &mut Gathering,
-) -> Result<(), Broken>
+) -> Result<(), UntoldFailure>
 where
     K: Naming,
     D: Disk,
@@ -186,7 +194,7 @@ where
 }
 
 // Seals what is drawn. Where memory is wanting it is tried again.
-fn seal<D: Disk, R: Wait + Clock>(rt: &R, half: &mut StoreHalf<D>) -> Result<(), Broken>
+fn seal<D: Disk, R: Wait + Clock>(rt: &R, half: &mut StoreHalf<D>) -> Result<(), UntoldFailure>
     requires drawn { half.old.progress ≡ batch_drawn }
     requires well { half.old.store.failed ≡ false }
     ensures course { Course D.Disk half.old half.new }
@@ -201,7 +209,7 @@ fn seal<D: Disk, R: Wait + Clock>(rt: &R, half: &mut StoreHalf<D>) -> Result<(),
         match half.seal() {
             Ok(()) => return Ok(()),
             Err(CommitFault::Memory) => pause(rt),
-            Err(CommitFault::StoreFailed) => return Err(Broken),
+            Err(CommitFault::StoreFailed) => return Err(UntoldFailure),
         }
     }
     unreachable!()
@@ -212,7 +220,7 @@ pub(crate) fn take_step<D, R>(
     rt: &R,
     half: &mut StoreHalf<D>,
     owes_step: &mut bool,
-) -> Result<(), Broken>
+) -> Result<(), UntoldFailure>
 where
     D: Disk,
     R: Log,
@@ -241,7 +249,7 @@ where
 }
 
 // Takes a step of a compaction, where one is due. Where memory is wanting for it, none is taken.
-fn compact_on<D: Disk>(half: &mut StoreHalf<D>) -> Result<(), Broken>
+fn compact_on<D: Disk>(half: &mut StoreHalf<D>) -> Result<(), UntoldFailure>
     requires rest { IsResting half.old }
     ensures course { Course D.Disk half.old half.new }
     ensures rest { OnOk result (IsResting half.new) }
@@ -253,7 +261,7 @@ fn compact_on<D: Disk>(half: &mut StoreHalf<D>) -> Result<(), Broken>
     match half.go_on() {
         Ok(()) => Ok(()),
         Err(CommitFault::Memory) => Ok(()),
-        Err(CommitFault::StoreFailed) => Err(Broken),
+        Err(CommitFault::StoreFailed) => Err(UntoldFailure),
     }
 }
 
@@ -354,11 +362,31 @@ impl<K: Naming, R: Wait + Clock + Drop> Plane<K, R> {
         }
     }
 
-    /// No batch is drawn any more, since sealing broke off. Wakes all who wait, and the flusher.
-    pub(crate) fn break_off(&self) {
-        self.shared.hall.lock(&self.shared.rt).break_off();
+    /// No batch is drawn any more, since sealing failed. Wakes all who wait, and the flusher: that
+    /// wants the lock of a hall that sealing broke off.
+    pub(crate) fn break_off(&self) -> Broken {
+        self.tell_broken(self.broken())
+    }
+
+    // The lock, under which the hall is told that sealing broke off.
+    fn broken(&self) -> MutexGuard<'_, Hall<K, R>>
+        ensures failed { result.value.failed ≡ true }
+        ensures ended { result.value.ended ≡ true }
+    {
+        let mut hall = self.shared.hall.lock(&self.shared.rt);
+        hall.break_off();
+        hall
+    }
+
+    // Lets go of the lock of a hall that was told, and wakes all who wait, and the flusher.
+    fn tell_broken(&self, hall: MutexGuard<'_, Hall<K, R>>) -> Broken
+        requires failed { hall.value.failed ≡ true }
+        requires ended { hall.value.ended ≡ true }
+    {
+        drop(hall);
         self.tell_all();
         self.shared.work.notify_all();
+        Broken { of: () }
     }
 
     /// Waits until an edit waits, the plane is to stop, or sealing broke off.

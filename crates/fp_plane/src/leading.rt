@@ -8,7 +8,9 @@ ghost use Rattle.fp_committer.specs.Course.{Course};
 ghost use Rattle.fp_plane.specs.Flushing.{Flushes, IsResting, PaysEach, PaysFirst, StepsWhereDue};
 ghost use Rattle.fp_plane.specs.Hall.{IsStoreOf};
 
-use crate::flushing::{Broken, Flushed, Lull, flush_while_busy, submit_and_flush, take_step};
+use crate::flushing::{
+    Broken, Flushed, Lull, UntoldFailure, flush_while_busy, submit_and_flush, take_step,
+};
 use crate::gathering::Gathering;
 use crate::hall::{AllSettled, Refusal};
 use crate::naming::Naming;
@@ -35,7 +37,8 @@ impl<D: Disk + Drop> Lists<OwnHalf<D>, OwnHalf<D>> for OnlyHalf {
 /// lock seals: the flusher, or an editor that is alone.
 pub(crate) struct Lying<K: Naming, D: Disk + Drop> {
     half: StoreHalf<D>,
-    broken: bool,
+    // That sealing broke off, which was told then.
+    broken: Option<Broken>,
     gathering: Gathering,
     // Whether a step of a compaction is owed behind the last batch.
     owes_step: bool,
@@ -46,7 +49,7 @@ pub(crate) struct Lying<K: Naming, D: Disk + Drop> {
 
 impl<K: Naming, D: Disk + Drop> Model for Lying<K, D> {
     ghost use Rattle.std.specs.Coded.{codes};
-    ghost use Rattle.std.specs.Prelude.{◌≡◌};
+    ghost use Rattle.std.specs.Prelude.{◌≡◌, is_some};
     ghost use Rattle.fp_edit.specs.Flags.{coded_state};
     ghost use Rattle.fp_group_commit.specs.Changes.{coded_change};
     ghost use Rattle.fp_plane.specs.Lying.{IsLeft, LyingState};
@@ -57,13 +60,13 @@ impl<K: Naming, D: Disk + Drop> Model for Lying<K, D> {
 
     ghost view = { λ l. record {
       half = l.half;
-      broken = l.broken;
+      broken = is_some l.broken;
       alone = l.gathering.alone;
       owes_step = l.owes_step;
     } };
 
     ghost invariant = { λ l. (l.began.name ≡ K.beginning)
-        × IsLeft D.Disk K.store K.desk_lists K.store_lists l.half l.broken l.began.log };
+        × IsLeft D.Disk K.store K.desk_lists K.store_lists l.half (is_some l.broken) l.began.log };
 }
 
 impl<K: Naming, D: Disk + Drop> Drop for Lying<K, D> {
@@ -98,7 +101,7 @@ impl<K: Naming, D: Disk + Drop> Lying<K, D> {
         half.rest();
         let lying = Lying {
             half,
-            broken: false,
+            broken: None,
             gathering: Gathering::new(),
             owes_step: false,
             began,
@@ -125,7 +128,7 @@ impl<K: Naming, D: Disk + Drop> Lying<K, D> {
         ensures owes { OnOk result (self.old.alone ≡ true → self.old.broken ≡ false
             → self.new.owes_step ≡ true) }
     {
-        if self.broken || !self.gathering.is_alone() {
+        if self.broken.is_some() || !self.gathering.is_alone() {
             return plane.submit(edit);
         }
         self.go_on(plane);
@@ -148,7 +151,7 @@ impl<K: Naming, D: Disk + Drop> Lying<K, D> {
         ensures broken { self.old.broken ≡ true → self.new ≡ self.old }
         ensures course { self.old.broken ≡ false → Course D.Disk self.old.half self.new.half }
     {
-        if self.broken {
+        if self.broken.is_some() {
             return plane.submit(edit);
         }
         let (submitted, ended) = submit_and_flush(
@@ -158,9 +161,9 @@ impl<K: Naming, D: Disk + Drop> Lying<K, D> {
             &mut self.owes_step,
             edit,
         );
-        self.broken = ended.is_err();
-        if self.broken {
-            plane.break_off();
+        match ended {
+            Ok(()) => {}
+            Err(UntoldFailure) => self.broken = Some(plane.break_off()),
         }
         submitted
     }
@@ -180,13 +183,13 @@ impl<K: Naming, D: Disk + Drop> Lying<K, D> {
         // None is owed then.
         ensures paid { self.old.broken ≡ false → self.new.owes_step ≡ false }
     {
-        if self.broken || !self.owes_step {
+        if self.broken.is_some() || !self.owes_step {
             return;
         }
         let stepped = take_step(&plane.shared.rt, &mut self.half, &mut self.owes_step);
-        self.broken = stepped.is_err();
-        if self.broken {
-            plane.break_off();
+        match stepped {
+            Ok(()) => {}
+            Err(UntoldFailure) => self.broken = Some(plane.break_off()),
         }
     }
 
@@ -203,8 +206,8 @@ impl<K: Naming, D: Disk + Drop> Lying<K, D> {
         // No step is owed where it pauses.
         ensures paid { IfNone result (self.new.owes_step ≡ false) }
     {
-        if self.broken {
-            return Some(Err(Broken));
+        if let Some(broken) = self.broken {
+            return Some(Err(broken));
         }
         let paused = flush_while_busy(
             plane,
@@ -212,13 +215,13 @@ impl<K: Naming, D: Disk + Drop> Lying<K, D> {
             &mut self.gathering,
             &mut self.owes_step,
         );
-        self.broken = paused.is_err();
         match paused {
             Ok(Lull::Alone) => None,
             Ok(Lull::Over(settled)) => Some(Ok(settled)),
-            Err(Broken) => {
-                plane.break_off();
-                Some(Err(Broken))
+            Err(UntoldFailure) => {
+                let broken = plane.break_off();
+                self.broken = Some(broken);
+                Some(Err(broken))
             }
         }
     }
