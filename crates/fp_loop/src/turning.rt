@@ -127,7 +127,7 @@ where
         self.look_in(rt, is_woken || is_due, now);
         self.look_round(is_due, now);
         self.tell();
-        !self.has_ended(now)
+        !self.end_if_over(now)
     }
 
     // Waits for what is ready.
@@ -191,9 +191,9 @@ where
         self.enqueue_all(None);
     }
 
-    // Whether it was stopped, and nothing is being sent any more or the time for that is over. Then
-    // all connections end.
-    fn has_ended(&mut self, now: u64) -> bool
+    // Ends all connections where it was stopped, and nothing is being sent any more or the time for
+    // that is over. Answers whether it did.
+    fn end_if_over(&mut self, now: u64) -> bool
         ensures { KeepsOn self.old self.new }
     {
         let Some(returns) = self.returns else {

@@ -47,7 +47,7 @@ impl Bells {
     }
 }
 
-// How many bells are rung for the revisions behind one, up to the last: one for each, and none twice.
+// How many bells ring for the revisions behind one, up to the last: one for each, and none twice.
 fn bells_between(behind: u64, last: u64) -> u64
     ensures { result ≡ min (last - behind) BELLS }
 {

@@ -12,4 +12,4 @@ returns g c =
     (runs_then g.S.Service.answers g.S.Informed.informs _ _ _ c.look_round.ensures
     (runs_then g.S.Service.answers g.S.Informed.informs _ _ _
     (runs_kept g.S.Service.answers g.S.Informed.informs _ _ c.tell.ensures)
-    (runs_kept g.S.Service.answers g.S.Informed.informs _ _ c.has_ended.ensures))))))
+    (runs_kept g.S.Service.answers g.S.Informed.informs _ _ c.end_if_over.ensures))))))
