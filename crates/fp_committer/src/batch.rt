@@ -26,7 +26,6 @@ impl<D: Disk> StoreHalf<D> {
         ensures called { MakesOne Write result (D.calls self.old.store.disk)
             (D.calls self.new.store.disk) }
     {
-        let _ = &self.held;
         if self.store.failed() {
             return Answer::Fault(StoreFault::Failed);
         }
@@ -62,7 +61,6 @@ impl<D: Disk> StoreHalf<D> {
         ensures called { MakesOne Sync result (D.calls self.old.store.disk)
             (D.calls self.new.store.disk) }
     {
-        let _ = &self.held;
         if self.store.failed() {
             return Answer::Fault(StoreFault::Failed);
         }
@@ -86,7 +84,6 @@ impl<D: Disk> StoreHalf<D> {
         ensures called { MakesOne Write result (D.calls self.old.store.disk)
             (D.calls self.new.store.disk) }
     {
-        let _ = &self.held;
         if self.store.failed() {
             return Answer::Fault(StoreFault::Failed);
         }
@@ -110,7 +107,6 @@ impl<D: Disk> StoreHalf<D> {
         ensures called { MakesOne Sync result (D.calls self.old.store.disk)
             (D.calls self.new.store.disk) }
     {
-        let _ = &self.held;
         if self.store.failed() {
             return Answer::Fault(StoreFault::Failed);
         }
@@ -138,7 +134,6 @@ impl<D: Disk> StoreHalf<D> {
         ensures called { MakesOfCompaction result (D.calls self.old.store.disk)
             (D.calls self.new.store.disk) }
     {
-        let _ = &self.held;
         if self.store.failed() {
             return Answer::Fault(StoreFault::Failed);
         }

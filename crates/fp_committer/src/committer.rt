@@ -233,7 +233,6 @@ impl<D: Disk> Committer<D> {
     pub fn desk(&self) -> &Desk
         ensures { result.now ≡ self.now.desk }
     {
-        let _ = &self.told;
         self.desk.desk()
     }
 

@@ -82,7 +82,6 @@ impl DeskHalf {
     pub fn desk(&self) -> &Desk
         ensures { result.now ≡ self.now.desk }
     {
-        let _ = &self.half;
         &self.desk
     }
 
@@ -105,7 +104,6 @@ impl DeskHalf {
         // An `Err` changes nothing.
         ensures unchanged { OnErr result (self.new ≡ self.old) }
     {
-        let _ = &self.half;
         self.desk.submit(edit)
     }
 
@@ -113,7 +111,6 @@ impl DeskHalf {
     pub fn stop(&mut self)
         ensures { self.new ≡ record self.old { desk = record self.old.desk { stopped = true } } }
     {
-        let _ = &self.half;
         self.desk.stop();
     }
 

@@ -143,7 +143,6 @@ impl<D: Disk> StoreHalf<D> {
         ensures memory { IfErr result
             (λ f. f ≡ Memory → BeginsNone self.old.store self.new.store) }
     {
-        let _ = &self.held;
         room::go_on(&mut self.store)
     }
 
@@ -168,7 +167,6 @@ impl<D: Disk> StoreHalf<D> {
         // `Err`: the calls were those of whole works, and some first ones of one more.
         ensures called { OnErr result (BreaksOff D.Disk self.old.store self.new.store) }
     {
-        let _ = &self.held;
         room::finish(&mut self.store)
     }
 }

@@ -65,7 +65,6 @@ impl<D: Disk> StoreHalf<D> {
     pub fn store(&self) -> &Store<D>
         ensures store { result.now ≡ self.now.store }
     {
-        let _ = &self.held;
         &self.store
     }
 

@@ -11,7 +11,7 @@ mod steps;
 
 pub use batches::{make_ready, open_gate, phase, stage, sync_body, sync_gate};
 pub use image::image_of;
-pub use machine::{StepFault, may_step, take_step};
+pub use machine::{StepFault, take_step};
 pub use opening::open;
 pub use room::has_room;
 pub use steps::{begin, chunk, close, copy_tail, finish, open_other, seal, sync_close};

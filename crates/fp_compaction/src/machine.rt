@@ -1,6 +1,6 @@
 //! A compaction's next step, whichever it is.
 
-ghost use Rattle.std.specs.Prelude.{◌≡◌, ◌≢◌, ◌/◌, ◌↔◌, ℕ, IsTrue, IfErr, OnOk, OnErr};
+ghost use Rattle.std.specs.Prelude.{◌≡◌, ◌≢◌, ◌/◌, ℕ, IfErr, OnOk, OnErr};
 ghost use Rattle.fp_journal.specs.declared.journal.Phase.TheVariants.{Failed};
 ghost use Rattle.fp_edit.specs.Flags.{size as size_of};
 ghost use Rattle.fp_slots.specs.declared.slots.Step.TheVariants.{Begin, SyncOpen};
@@ -12,7 +12,6 @@ ghost use Rattle.fp_compaction.specs.declared.machine.StepFault.TheVariants.{Dev
 use crate::steps::{begin, chunk, close, copy_tail, finish, open_other, seal, sync_close};
 use fp_disk::{Disk, DiskFault};
 use fp_edit::FlagSet;
-use fp_journal::Phase;
 use fp_slots::{Slots, Step};
 use std::alloc::{AllocError, Global};
 
@@ -38,18 +37,6 @@ impl From<AllocError> for StepFault {
 
     fn from(_fault: AllocError) -> StepFault {
         StepFault::Memory
-    }
-}
-
-/// Whether a step may be taken. Exactly where there is a generation behind the present one, if no
-/// compaction runs, and no batch is on its way, if the tail is next.
-pub fn may_step<D: Disk>(slots: &Slots<D>) -> bool
-    ensures { IsTrue result ↔ MayStep slots.now }
-{
-    match slots.step() {
-        Step::Begin => slots.generation() < u64::MAX,
-        Step::Tail => matches!(slots.journal().phase(), Phase::Idle | Phase::Failed),
-        _ => true,
     }
 }
 
@@ -81,7 +68,7 @@ pub fn take_step<D: Disk>(
 ) -> Result<(), StepFault>
     // No call of the journal has failed.
     requires live { slots.old.journal.phase ≢ Failed }
-    // A step may be taken, as `may_step` has it.
+    // A step may be taken.
     requires may { MayStep slots.old }
     // Where no compaction runs: the set's limit takes at least an image of no flags, and an image
     // as long as it has room in the other slot.

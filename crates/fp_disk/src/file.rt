@@ -1,15 +1,14 @@
 //! A disk over a file.
 
-ghost use Rattle.std.specs.Prelude.{◌≡◌, [], ◌∷◌, ◌++◌, IfOk};
+ghost use Rattle.std.specs.Prelude.{◌≡◌, [], ◌∷◌, ◌++◌};
 ghost use Rattle.fp_disk.specs.Outcomes.{CountsFaults, all_synced};
 
 use crate::disk::{Disk, DiskFault};
 use crate::history::{CallKind, History};
-use std::fs::{OpenFile, OpenOptions};
+use std::fs::OpenFile;
 use std::io;
 use std::io::{Read, Seek, SeekFrom, Write};
 use std::marker::Model;
-use std::rt::Files;
 
 /// A disk over a file of a runtime. It notes its calls and counts its failures; what a real file
 /// keeps over a crash, nothing here shows, so that it is never honest. It never makes a file
@@ -38,32 +37,6 @@ impl<F: Drop> FileDisk<F> {
             file,
             history: History::new(),
         }
-    }
-}
-
-/// The disk, of no call yet, over the file at this path, made where there is none. What is in it
-/// stays.
-pub fn create_file<R: Files>(rt: &R, path: &str) -> Result<FileDisk<R::File>, DiskFault>
-    ensures { IfOk result (λ d. d ≡ record { made = []; faults = 0 }) }
-{
-    open_as(rt, path, true)
-}
-
-/// The disk, of no call yet, over the file at this path. It is a fault where there is none.
-pub fn open_file<R: Files>(rt: &R, path: &str) -> Result<FileDisk<R::File>, DiskFault>
-    ensures { IfOk result (λ d. d ≡ record { made = []; faults = 0 }) }
-{
-    open_as(rt, path, false)
-}
-
-fn open_as<R: Files>(rt: &R, path: &str, may_create: bool) -> Result<FileDisk<R::File>, DiskFault>
-    ensures { IfOk result (λ d. d ≡ record { made = []; faults = 0 }) }
-{
-    let mut how = OpenOptions::new();
-    how.read(true).write(true).create(may_create);
-    match how.open(rt, path) {
-        Ok(file) => Ok(FileDisk::over(file)),
-        Err(_) => Err(DiskFault::Device),
     }
 }
 

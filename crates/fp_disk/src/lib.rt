@@ -17,6 +17,6 @@ pub use checked::{Checked, Synced};
 pub use choice::{Choice, Fill};
 pub use disk::{Disk, DiskFault};
 pub use failing::{FailedWrite, Failing};
-pub use file::{FileDisk, create_file, open_file};
+pub use file::FileDisk;
 pub use history::{CallKind, History};
 pub use memory::MemoryDisk;

@@ -23,7 +23,7 @@ const NO_FILE: &str = "it is a folder or a pipe";
 
 /// The file at this path, with its lock where it is to be written: the file has it until it is
 /// closed. Where another program has the lock it isn't opened. What is in the file stays. One that
-/// is to be written is read as its device has it.
+/// is to be written is read as its device has it, and the name of one that is to be made is synced.
 pub fn open_for<R: Files<File = File>>(rt: &R, path: &str, purpose: Purpose) -> io::Result<File> {
     if !writes(purpose) {
         has_bytes(&rt.metadata(path)?)?;
@@ -33,7 +33,31 @@ pub fn open_for<R: Files<File = File>>(rt: &R, path: &str, purpose: Purpose) -> 
         may_write(file.try_lock())?;
         forget(&file);
     }
+    if makes(purpose) {
+        sync_name(rt, path)?;
+    }
     Ok(file)
+}
+
+// Has the folder of a path keep the names that it has now. One that can't be opened to be read, or
+// whose file system syncs no folders, isn't asked.
+fn sync_name<R: Files<File = File>>(rt: &R, path: &str) -> io::Result<()> {
+    let Ok(folder) = File::open(rt, folder_of(path)) else {
+        return Ok(());
+    };
+    match folder.sync_all() {
+        Err(fault) if fault.kind() != ErrorKind::InvalidInput => Err(fault),
+        _ => Ok(()),
+    }
+}
+
+// The folder in which a path names something.
+fn folder_of(path: &str) -> &str {
+    match path.rfind('/') {
+        Some(0) => "/",
+        Some(end) => &path[..end],
+        None => ".",
+    }
 }
 
 // Has the system forget what it holds of a file in memory. A sync that failed may have left there

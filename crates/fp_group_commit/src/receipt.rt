@@ -35,7 +35,6 @@ impl Receipt {
     pub fn batch(&self) -> &Draw
         ensures { result.now ≡ self.now.batch }
     {
-        let _ = &self.part;
         &self.draw
     }
 
@@ -44,7 +43,6 @@ impl Receipt {
         ensures { result
             ≡ front_revision (record { store = self.now.store; edits = self.now.edits }) }
     {
-        let _ = &self.part;
         self.draw.first - 1 + self.draw.edits.len() as u64
     }
 

@@ -69,7 +69,6 @@ impl Told {
     pub fn revision(&self) -> u64
         ensures { result ≡ front_revision self.now }
     {
-        let _ = &self.part;
         self.revision
     }
 
@@ -115,7 +114,6 @@ impl Settled {
     pub fn revision(&self) -> u64
         ensures { result ≡ front_revision (front_of self.now) }
     {
-        let _ = &self.part;
         self.revision
     }
 
@@ -148,7 +146,6 @@ impl Settled {
         // What is settled ends with them.
         ensures ends { EndsWith self.now.edits (changes_of result.now) }
     {
-        let _ = &self.part;
         &self.last
     }
 

@@ -135,7 +135,6 @@ impl<D: Disk> Store<D> {
     pub fn step(&self) -> Step
         ensures { result ≡ self.now.compaction.next }
     {
-        let _ = &self.set;
         self.slots.step()
     }
 
@@ -143,7 +142,6 @@ impl<D: Disk> Store<D> {
     pub fn failed(&self) -> bool
         ensures { result ≡ self.now.failed }
     {
-        let _ = &self.set;
         matches!(self.slots.journal().phase(), JournalPhase::Failed)
     }
 
@@ -177,7 +175,6 @@ impl<D: Disk> Store<D> {
     pub fn may_compact(&self) -> bool
         ensures { IsTrue result ↔ MayCompact self.now }
     {
-        let _ = &self.set;
         match self.slots.step() {
             Step::Begin => self.slots.generation() < u64::MAX,
             Step::Tail => matches!(self.phase, Phase::Idle),
@@ -192,7 +189,6 @@ impl<D: Disk> Store<D> {
         // It is 1 or 2.
         ensures known { IsVersion result }
     {
-        let _ = &self.set;
         self.slots.version()
     }
 
@@ -200,7 +196,6 @@ impl<D: Disk> Store<D> {
     pub fn generation(&self) -> u64
         ensures { result ≡ self.now.compaction.generation }
     {
-        let _ = &self.set;
         self.slots.generation()
     }
 
@@ -208,7 +203,6 @@ impl<D: Disk> Store<D> {
     pub fn room(&self) -> u64
         ensures { result ≡ self.now.room }
     {
-        let _ = &self.set;
         self.slots.journal().room()
     }
 
@@ -216,7 +210,6 @@ impl<D: Disk> Store<D> {
     pub fn is_short(&self) -> bool
         ensures { IsTrue result ↔ (self.now.room < self.now.store.start.limit / 2) }
     {
-        let _ = &self.set;
         let (size, _) = self.slots.beside();
         self.slots.journal().room() < size / 4
     }

@@ -174,7 +174,6 @@ impl<D: Disk> Journal<D> {
         // No body that it sealed is longer than the slot allows.
         ensures short { AllShort result.most self.now.sealed }
     {
-        let _ = &self.end;
         self.slot
     }
 
@@ -193,7 +192,6 @@ impl<D: Disk> Journal<D> {
         // The body is no longer than the slot allows.
         ensures short { length self.now.staged ≤ self.now.slot.most }
     {
-        let _ = &self.end;
         self.in_flight.as_slice()
     }
 

@@ -52,12 +52,4 @@ impl Sealed {
         let _ = gate;
         Sealed { front }
     }
-
-    /// The bodies as a beginning of the list of all that this journal seals.
-    pub fn into_front(self) -> Front<Body>
-        ensures { (result.name ≡ self.name) × (result.log ≡ self.bodies) }
-    {
-        let Sealed { front } = self;
-        front
-    }
 }

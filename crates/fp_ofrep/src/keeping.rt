@@ -82,7 +82,6 @@ impl KeptTags {
         requires { self.now.store ≡ view.now.store }
         ensures { result ≡ true → self.now ≡ view.now }
     {
-        let _ = self.is_timeless;
         self.shown.is_same(&view.shown())
     }
 

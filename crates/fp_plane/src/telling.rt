@@ -1,7 +1,7 @@
 //! What a flusher tells of its store's compactions.
 
 ghost use Rattle.std.specs.Prelude.{◌≡◌, ◌≢◌, ◌↔◌, IsTrue};
-ghost use Rattle.fp_plane.specs.Telling.{has_begun, has_ended};
+ghost use Rattle.fp_plane.specs.Telling.{begun, has_begun, has_ended};
 ghost use Rattle.fp_slots.specs.declared.slots.Step.TheVariants.{Begin};
 
 use fp_disk::Disk;
@@ -44,8 +44,14 @@ impl Seen {
     pub fn has_begun(&self, now: &Seen) -> bool
         ensures { result ≡ has_begun self.now now.now }
     {
-        let ended = self.has_ended(now);
-        (now.runs && (!self.runs || ended)) || (!self.runs && ended)
+        self.begun() < now.begun()
+    }
+
+    // How many have begun: each that ended, and one that runs.
+    fn begun(&self) -> u128
+        ensures { result ≡ begun self.now }
+    {
+        u128::from(self.generation) + u128::from(self.runs)
     }
 
     /// Tells what began and what ended since then.

@@ -246,7 +246,6 @@ impl Board {
         ensures { MatchOption result (front_revision self.now < front_revision told.now)
             (λ s. (s ≡ self.now) × Begins told.now s) }
     {
-        let _ = &self.writer;
         let told = Shown::of(told);
         if self.shown.is_behind(&told) {
             return None;

@@ -83,7 +83,6 @@ impl Evaluator {
         ensures rested { self.new ≡ record self.old { lent = None } }
         ensures seat { IfSome result (λ r. KnowsStore (view r.place) self.old.known.store) }
     {
-        let _ = &self.known;
         match mem::replace(&mut self.held, Held::Gone) {
             Held::Out(reader) => Some(reader),
             Held::In(reading) => Some(reading.leave()),
@@ -133,7 +132,6 @@ impl Evaluator {
         // `Some` exactly where something was taken and isn't let go of, and it is that.
         ensures { MatchOption result (self.now.lent ≡ None) (λ v. self.now.lent ≡ Some v) }
     {
-        let _ = &self.known;
         match &self.held {
             Held::In(reading) => Some(View::of(reading.get())),
             _ => None,

@@ -84,7 +84,6 @@ impl Handed {
     pub fn document(&self) -> &[u8]
         ensures { result.now ≡ document (front_set self.now).flags }
     {
-        let _ = &self.shown;
         self.made.text()
     }
 
@@ -92,7 +91,6 @@ impl Handed {
     pub fn revision(&self) -> u64
         ensures { result ≡ front_revision self.now }
     {
-        let _ = &self.made;
         self.shown.revision()
     }
 

@@ -51,7 +51,6 @@ impl Shown {
     pub fn revision(&self) -> u64
         ensures { result ≡ front_revision self.now }
     {
-        let _ = &self.front;
         self.revision
     }
 
@@ -65,7 +64,6 @@ impl Shown {
     pub(crate) fn front(&self) -> Part
         ensures { result ≡ self.now }
     {
-        let _ = self.revision;
         self.front.again()
     }
 

@@ -12,6 +12,7 @@ mod roles;
 mod services;
 mod serving;
 mod task;
+mod until_stopped;
 mod watching;
 
 pub use attending::attend;

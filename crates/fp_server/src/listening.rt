@@ -213,7 +213,7 @@ where
     let plane = plane.try_copy()?;
     let own = *rt;
     let started = thread::spawn(rt, move || {
-        let ended = converse(&own, role, limits, &plane, &stream);
+        let ended = converse(&own, role, limits, &plane, &stream, &place);
         if ended == Ended::ByPeer || place.is_closed() {
             linger(&own, &stream, &place);
         }

@@ -1,9 +1,11 @@
 //! What becomes of one connection.
 
+use crate::connections::Place;
 use crate::ended::Ended;
 use crate::evaluations::{LentEvaluator, LoanFault};
 use crate::noted::Noted;
 use crate::serving::moment;
+use crate::until_stopped::UntilStopped;
 use fp_connections::{Host, end_untaken};
 use fp_conversations::{EditorEnd, SubscriberFault, editor_loop, subscriber_loop};
 use fp_disk::Disk;
@@ -61,6 +63,7 @@ pub fn converse<K, D, R>(
     limits: TimeLimits,
     plane: &SealingPlane<K, D, R>,
     stream: &TcpStream,
+    place: &Place<R>,
 ) -> Ended
 where
     K: Naming,
@@ -73,7 +76,7 @@ where
     end_untaken(stream, limits.reply);
     match role {
         Role::Evaluations => evaluate(rt, limits, plane.plane(), stream),
-        Role::Edits => edit(rt, plane, stream),
+        Role::Edits => edit(rt, plane, stream, place),
         Role::Snapshots => subscribe(plane.plane(), stream),
     }
 }
@@ -108,7 +111,12 @@ where
     }
 }
 
-fn edit<K, D, R>(rt: &R, plane: &SealingPlane<K, D, R>, stream: &TcpStream) -> Ended
+fn edit<K, D, R>(
+    rt: &R,
+    plane: &SealingPlane<K, D, R>,
+    stream: &TcpStream,
+    place: &Place<R>,
+) -> Ended
 where
     K: Naming,
     D: Disk + Drop,
@@ -118,7 +126,7 @@ where
     let Ok(gathered) = BufWriter::new(rt.alloc(), Noted::new(stream)) else {
         return Ended::Fault(ErrorKind::OutOfMemory);
     };
-    let mut r = FailureCounted::new(Noted::new(stream));
+    let mut r = FailureCounted::new(UntilStopped::new(stream, place));
     let mut w = FailureCounted::new(gathered);
     match edit_over(rt, plane, &mut r, &mut w) {
         Some(ended) => ended,

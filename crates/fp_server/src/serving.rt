@@ -24,16 +24,16 @@ use fp_files::DiskFiles;
 use fp_fronts::Growing;
 use fp_group_commit::{Opening, Store};
 use fp_http::TimeLimits;
-use fp_log::{Event, tell};
+use fp_log::{Event, tell, tell_failure};
 use fp_plane::{Flushed, Naming, OwnHalf, Plane, SealingPlane, flusher};
 use fp_streams::FailureCounted;
 use std::alloc::AllocError;
 use std::io::{Read, Write};
 use std::marker::Brand;
 use std::snapshot::Snapshot;
-use std::thread;
 use std::thread::{Promise, PromisedHandle};
 use std::time::{Clock, Instant, SystemTime, UNIX_EPOCH};
+use std::{io, thread};
 
 // The last moment that a reply knows.
 const LAST_MOMENT: u64 = 0x7fff_ffff_ffff_ffff;
@@ -257,9 +257,10 @@ where
     };
     match thread::spawn_with(rt, promise, flush) {
         Ok(flusher) => serve_plane(rt, &plane, flusher, services, r, w),
-        Err(_refused) => {
+        Err(refused) => {
             // What the thread was to do is done here: with nothing to seal it gives the half back.
-            tell(rt, &Event::NotStarted { thread: "flusher" });
+            let thread = "flusher";
+            tell_failure(rt, &Event::NotStarted { thread }, &io::Error::from(refused));
             plane.plane().close();
             Err((CommandFault::Device, flusher(&plane, here).half.into_half()))
         }

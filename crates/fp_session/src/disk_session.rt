@@ -1,7 +1,7 @@
 //! Edits that go to a disk, by the halves of a committer.
 
-ghost use Rattle.std.specs.Prelude.{◌≡◌, ◌<◌, [], ◌∷◌, false, IfOk, IfErr, IsTrue, MatchResult};
-ghost use Rattle.std.specs.Prelude.{◌↔◌, ◌≢◌, true};
+ghost use Rattle.std.specs.Prelude.{◌≡◌, ◌<◌, [], ◌∷◌, false, IfOk, IfErr, MatchResult};
+ghost use Rattle.std.specs.Prelude.{◌≢◌, true};
 ghost use Rattle.fp_disk.specs.Crashes.{EachCrash, SameHonesty};
 ghost use Rattle.fp_disk.specs.Outcomes.{IsOutcome, LeavesOnly};
 ghost use Rattle.fp_disk.specs.declared.history.CallKind.TheVariants.{Length, Sync};
@@ -156,14 +156,6 @@ impl<D: Disk> DiskSession<D> {
             Ok(session) => Ok(session),
             Err(store) => Err((OpenFault::Memory, store.into_disk())),
         }
-    }
-
-    /// Whether it takes edits: exactly where it hasn't stopped at edits that weren't kept.
-    pub fn is_ready(&self) -> bool
-        ensures { IsTrue result ↔ IsReady D.Disk self.now }
-    {
-        self.stays();
-        !self.is_stopped
     }
 
     // Shows what a crash leaves while nothing is done. Does nothing when it runs.

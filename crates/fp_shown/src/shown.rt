@@ -70,7 +70,6 @@ impl Shown {
     pub fn revision(&self) -> u64
         ensures { result ≡ self.now.revision }
     {
-        let _ = &self.document;
         self.set.revision()
     }
 
@@ -78,7 +77,6 @@ impl Shown {
     pub fn document(&self) -> &[u8]
         ensures { result.now ≡ self.now.document }
     {
-        let _ = &self.set;
         self.document.as_slice()
     }
 
@@ -89,7 +87,6 @@ impl Shown {
         // It is lawful.
         ensures lawful { IsLawful result.now }
     {
-        let _ = &self.document;
         &self.set
     }
 }

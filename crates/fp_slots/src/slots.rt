@@ -191,7 +191,6 @@ impl<D: Disk> Slots<D> {
     pub fn generation(&self) -> u64
         ensures { result ≡ self.now.generation }
     {
-        let _ = &self.journal;
         self.generation
     }
 
@@ -201,7 +200,6 @@ impl<D: Disk> Slots<D> {
         // It is 1 or 2.
         ensures known { IsVersion self.now.version }
     {
-        let _ = &self.journal;
         self.version
     }
 

@@ -65,7 +65,6 @@ impl Told {
 
     /// The newest revision.
     pub fn newest(&self) -> u64 {
-        let _ = &self.changes;
         self.newest
     }
 
@@ -84,7 +83,6 @@ impl Told {
     }
 
     fn go_on(&mut self, revision: u64) {
-        let _ = &self.changes;
         self.newest = revision;
         self.told = revision;
         self.is_failed = false;
@@ -114,7 +112,6 @@ impl Told {
     // From a call that fails on, and not before, each event that calls the disk has to be answered
     // that the store has failed.
     fn note_call(&mut self, event: &Event, answer: &Reply) {
-        let _ = &self.changes;
         let is_refused = matches!(answer, Reply::Fault(StoreFault::Failed));
         if calls_disk(event) && is_refused != self.is_failed {
             self.lost();
@@ -125,7 +122,6 @@ impl Told {
     }
 
     fn note_kind(&mut self, kind: &'static str) -> Result<(), AllocError> {
-        let _ = &self.changes;
         if !self.kinds.contains(&kind) {
             self.kinds.push(kind)?;
         }
@@ -166,13 +162,11 @@ impl Told {
     }
 
     fn tell_of(&mut self, revision: u64) {
-        let _ = &self.changes;
         self.told = self.told.max(revision);
     }
 
     /// Something isn't as it has to be.
     pub fn lost(&mut self) {
-        let _ = &self.changes;
         self.violations = self.violations.saturating_add(1);
     }
 
@@ -216,7 +210,6 @@ impl Told {
 
     // What the last edit of this key made of it.
     fn mark(&self, key: u64) -> Option<Mark> {
-        let _ = self.told;
         for change in self.changes.iter().rev() {
             if change.key == key {
                 return change.length.map(|length| Mark {
@@ -230,7 +223,6 @@ impl Told {
 
     /// Tells what came of it.
     pub fn tell(&self, out: &mut Text) -> Answer {
-        let _ = &self.changes;
         out.named("violations", self.violations);
         out.push(", kinds of answers ");
         out.number(self.kinds.len() as u64);

@@ -196,7 +196,6 @@ impl Views {
     pub fn seats(&self) -> usize
         ensures { result ≡ length self.now.seats }
     {
-        let _ = &self.shown;
         self.places.len()
     }
 
@@ -212,7 +211,6 @@ impl Views {
         ensures unchanged { OnErr result (self.new ≡ self.old) }
         ensures turn { OnErr result (HasNews self.old seat) }
     {
-        let _ = &self.shown;
         let place = &mut self.places[seat];
         self.seats.hand(self.alloc, &self.board.view(), place)
     }
@@ -221,7 +219,6 @@ impl Views {
     pub fn readers(&self) -> usize
         ensures { result ≡ self.now.readers }
     {
-        let _ = &self.shown;
         self.readers.len()
     }
 
@@ -237,7 +234,6 @@ impl Views {
             ≡ reply_to (front_set self.old.board) request.now now.now) }
         ensures same { self.new ≡ self.old }
     {
-        let _ = &self.shown;
         let view = self.board.view();
         let evaluator = &mut self.readers[reader];
         evaluated(self.alloc, evaluator, &self.shown, &view, request, now)

@@ -202,7 +202,6 @@ impl<D: Disk> World<D> {
             Course D.Disk self.old events.now answers.items self.new) }
         ensures err { OnErr result (self.new ≡ self.old) }
     {
-        let _ = &self.views;
         let mut answers = Vec::with_capacity(alloc, events.len())?;
         for event in events {
             answers.push_reserved(self.turn(rt, event));
