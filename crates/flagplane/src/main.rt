@@ -5,7 +5,7 @@ use fp_commands::command;
 use fp_connections::hold_closed_streams;
 use fp_files::SystemFiles;
 use fp_log::{Reported, Source, Stamped};
-use fp_server::{Host, attend, moment};
+use fp_server::{Host, Moment, attend};
 use fp_streams::FailureCounted;
 use log::{Level, LevelFilter, Logged};
 use std::alloc::AllocGlobal;
@@ -52,7 +52,7 @@ where
     match attend(rt, &mut files, words, &mut r, &mut w, &mut e) {
         Some(status) => status,
         None => {
-            let now = moment(rt);
+            let now = Moment::now(rt).seconds();
             command(rt.alloc(), &mut files, words, &mut r, &mut w, &mut e, now)
         }
     }

@@ -1,5 +1,5 @@
 -- The response to what was asked, by the replies that may be given to it.
-use Rattle.std.specs.Prelude.{◌≡◌, ℕ, List, Option, Some, None, Result, Ok, Err, min, option_map}
+use Rattle.std.specs.Prelude.{◌≡◌, ℕ, List, Option, Some, None, Result, Ok, Err, option_map}
 use Rattle.std.specs.Prelude.{string_bytes, length, ◌==◌, if◌then◌else◌}
 use Rattle.std.specs.Global.{Vec}
 use Rattle.http.specs.declared.response.Parts.{Parts}
@@ -8,17 +8,16 @@ use Rattle.http_body_util.specs.declared.limited.LimitedError.TheVariants as lim
 use Rattle.fp_ofrep.specs.Response as reply
 use Rattle.fp_http.specs.Responses.{IsHeadOf}
 use Rattle.fp_http.specs.declared.asked.Asked.{Asked}
-use Rattle.fp_http.specs.Numbers.{LATEST}
 
 -- the replies to a method, a target, the text of `if-none-match`, a body and a moment
 abbrev pub Replies : Type 1
 Replies = List ℕ → List ℕ → Option (List ℕ) → Option (List ℕ) → ℕ → reply.Response → Type 0
 
--- a reply to what was asked; no moment is later than the last one
+-- a reply to what was asked
 abbrev pub MayReply : Replies → Asked → Option (List ℕ) → ℕ → reply.Response → Type 0
 MayReply replies asked body moment said =
     replies asked.method (string_bytes asked.target) (option_map (λ v. v.items) asked.if_none_match)
-    body (min moment LATEST) said
+    body moment said
 
 -- what came is this body, or one that is too long
 abbrev pub WasGathered : {E : Type 0} → Result (Vec ℕ) (LimitedError E) → Option (List ℕ)

@@ -1,7 +1,10 @@
 -- What a reply depends on of a request of HTTP.
-use Rattle.std.specs.Prelude.{◌≡◌, ℕ, List, [], Option, Some, None, codes, option_map, string_bytes}
+use Rattle.std.specs.Prelude.{◌≡◌, ℕ, List, [], ◌∷◌, Option, Some, None, codes, option_map}
+use Rattle.std.specs.Prelude.{string_bytes}
+use Rattle.std.specs.List.{join_by}
 use Rattle.http.specs.declared.request.Parts.{Parts}
-use Rattle.http_header.specs.HeaderMap.{get}
+use Rattle.http_header.specs.FieldValue.{FieldValue}
+use Rattle.http_header.specs.HeaderMap.{get_all}
 use Rattle.http_uri.specs.Uri.{uri_path_and_query}
 use Rattle.http_uri.specs.Grammar.{or_slash}
 use Rattle.fp_http.specs.declared.asked.Asked.{Asked}
@@ -14,9 +17,14 @@ text_of (Some text) = or_slash text
 abbrev pub target_of : Parts → List ℕ
 target_of head = text_of (uri_path_and_query head.uri)
 
--- the method, the target, and the value of the first `if-none-match`
+-- the values of a name's fields as one list, with a comma between; none where there is no field
+abbrev pub list_of : List FieldValue → Option (List ℕ)
+list_of [] = None
+list_of (first ∷ more) = Some (join_by (λ v. v.bytes) (codes ", ") (first ∷ more))
+
+-- the method, the target, and the list of all fields `if-none-match`
 pub record IsAsked (head : Parts) (asked : Asked) : Type 0 where
   pub method : asked.method ≡ head.method
   pub target : string_bytes asked.target ≡ target_of head
   pub tags : option_map (λ v. v.items) asked.if_none_match
-      ≡ option_map (λ v. v.bytes) (get head.headers (codes "if-none-match"))
+      ≡ list_of (get_all head.headers (codes "if-none-match"))

@@ -1,4 +1,3 @@
-pub mod Numbers
 pub mod Responses
 pub mod Asking
 pub mod Gathering

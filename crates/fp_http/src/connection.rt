@@ -2,6 +2,7 @@
 
 use crate::evaluator::Evaluator;
 use crate::fault::NoReply;
+use crate::moment::Moment;
 use crate::service::Answers;
 use futures::executor::block_on;
 use hyper::server::conn::http1;
@@ -17,7 +18,7 @@ use tokio::io::{AsyncRead, AsyncWrite};
 /// back where there was memory to begin. It is safe and total but for the peer's silence, and asks
 /// `hyper` for what that asks of a service.
 ///
-/// `now` gives the moment in seconds since 1970.
+/// `now` is asked for the moment of each request as it comes.
 pub fn serve_ofrep<R, I, E, N>(
     rt: &R,
     connection: I,
@@ -28,7 +29,7 @@ where
     R: Wait + RandomSource + AllocGlobal,
     I: AsyncRead + AsyncWrite,
     E: Evaluator,
-    N: Fn() -> u64 + Drop,
+    N: Fn() -> Moment + Drop,
     // `now` may be called always.
     requires { N.IsAlwaysCallable now }
 {

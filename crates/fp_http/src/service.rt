@@ -11,6 +11,7 @@ use crate::asked::Asked;
 use crate::evaluator::Evaluator;
 use crate::fault::NoReply;
 use crate::gathering::Gathering;
+use crate::moment::Moment;
 use crate::response::response_of;
 use bytes::Bytes;
 use fp_ofrep::{Body, LONGEST_BODY, Reply};
@@ -23,9 +24,6 @@ use hyper::{Request, Response};
 use std::alloc::Global;
 use std::cell::RefCell;
 use std::rc::Rc;
-
-/// The last moment that a reply knows, in seconds since 1970.
-pub const LATEST: u64 = 0x7fff_ffff_ffff_ffff;
 
 /// The evaluator of a connection, where it is still there.
 pub type Shared<E> = Rc<RefCell<Option<E>>>;
@@ -45,10 +43,11 @@ pub struct Answering<C: Drop, E: Drop> {
     asked: Option<Asked>,
     body: C,
     evaluator: Option<Shared<E>>,
-    moment: u64,
+    moment: Moment,
 }
 
-impl<I: Drop, E: Evaluator, N: Fn() -> u64 + Drop> Service<Request<Incoming<I>>> for Answers<E, N> {
+impl<I: Drop, E: Evaluator, N: Fn() -> Moment + Drop> Service<Request<Incoming<I>>>
+    for Answers<E, N> {
     type Response = Response<Full<Bytes>>;
 
     type Error = NoReply;
@@ -100,7 +99,7 @@ where
             &self.asked,
             gathered,
             &self.evaluator,
-            self.moment,
+            &self.moment,
         ))
     }
 }
@@ -124,10 +123,10 @@ fn answered<E: Evaluator>(
     asked: &Option<Asked>,
     gathered: Result<Vec<u8>, LimitedError<hyper::Error>>,
     evaluator: &Option<Shared<E>>,
-    moment: u64,
+    moment: &Moment,
 ) -> Result<Response<Full<Bytes>>, NoReply>
     ensures { IfOk result (λ response. IsSomeAnd asked.now (λ asked. (body : Option (List ℕ))
-        × WasGathered gathered body × IsAnswer E.replies asked body moment
+        × WasGathered gathered body × IsAnswer E.replies asked body moment.now
         (reply.head_of response) (reply.body_of response).buf)) }
 {
     let body = whole_body(gathered)?;
@@ -148,14 +147,14 @@ fn reply_to<E: Evaluator>(
     evaluator: &Shared<E>,
     asked: &Asked,
     body: Body<'_>,
-    moment: u64,
+    moment: &Moment,
 ) -> Result<Reply, NoReply>
     ensures { IfOk result (λ reply.
-        MayReply E.replies asked.now (body_seen body.entry) moment (response_seen reply)) }
+        MayReply E.replies asked.now (body_seen body.entry) moment.now (response_seen reply)) }
 {
     let mut held = evaluator.try_borrow_mut().map_err(|_| NoReply)?;
     let there = held.as_mut().ok_or(NoReply)?;
     let tags = asked.if_none_match.as_ref().map(|tags| tags.as_slice());
-    let now = moment.min(LATEST);
+    let now = moment.seconds();
     there.answer(alloc, &asked.method, asked.target.as_str(), tags, body, now)
 }

@@ -1,10 +1,8 @@
 //! A store over sockets, from its opening to its end.
 
-ghost use Rattle.std.specs.Prelude.{◌≡◌, ◌≢◌, ◌+◌, ◌-◌, ◌/◌, ◌<◌, ◌^◌, [], IfOk, IfErr, Ok, OnOk};
-ghost use Rattle.std.specs.Prelude.{codes, min};
+ghost use Rattle.std.specs.Prelude.{◌≡◌, ◌≢◌, ◌+◌, [], IfOk, IfErr, Ok, OnOk, codes};
 ghost use Rattle.std.specs.FinMap as map;
 ghost use Rattle.std.specs.Io.KnownBytes.{IsAtEnd};
-ghost use Rattle.std.specs.Time.{system_time_nanos};
 ghost use Rattle.fp_commands.specs.declared.fault.CommandFault.TheVariants.{StoreFailed};
 ghost use Rattle.fp_committer.specs.Course.{GoesThrough};
 ghost use Rattle.fp_group_commit.specs.Store.{IsAtRest, IsFresh};
@@ -32,31 +30,8 @@ use std::io::{Read, Write};
 use std::marker::Brand;
 use std::snapshot::Snapshot;
 use std::thread::{Promise, PromisedHandle};
-use std::time::{Clock, Instant, SystemTime, UNIX_EPOCH};
+use std::time::Instant;
 use std::{io, thread};
-
-// The last moment that a reply knows.
-const LAST_MOMENT: u64 = 0x7fff_ffff_ffff_ffff;
-
-/// The seconds since 1970, and 0 before it or without a clock; always below 2^63.
-pub fn moment<R: Clock>(rt: &R) -> u64
-    ensures { result < 2 ^ 63 }
-{
-    let Ok(now) = SystemTime::now(rt) else {
-        return 0;
-    };
-    moment_at(now)
-}
-
-// The whole seconds from 1970 to this time, and at most the last moment that a reply knows.
-fn moment_at(now: SystemTime) -> u64
-    ensures { result ≡ min (system_time_nanos now / 1_000_000_000) (2 ^ 63 - 1) }
-{
-    match now.duration_since(UNIX_EPOCH) {
-        Ok(since) => since.as_secs().min(LAST_MOMENT),
-        Err(_) => 0,
-    }
-}
 
 /// Serves the file at this path to editors, evaluators and subscribers, each in a thread of its
 /// own, until the input ends. Then what was handed in is sealed, those who wait are answered, and
