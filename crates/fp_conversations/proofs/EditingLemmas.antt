@@ -1,5 +1,5 @@
 -- The lines of an editor, and what they are answered.
-use Rattle.std.proofs.Common.{◌≡◌, ◌≤◌, ℕ, List, [], ◌∷◌, ◌++◌, All, Option, None, Some, Ok, Err, IfSome, IsSomeAnd}
+use Rattle.std.proofs.Common.{◌≡◌, ◌≤◌, ℕ, List, [], ◌∷◌, ◌++◌, true, All, Option, None, Some, Ok, Err, IfSome, IsSomeAnd}
 use Rattle.std.proofs.Common.{sym, ap, subst, ◌∙◌, append_assoc, append-nil, inl, inr, slice_index_or, arith}
 use Rattle.std.proofs.lemmas.List.Elements.{All-push}
 use Rattle.std.specs.Io.KnownBytes.{Appends}
@@ -7,9 +7,9 @@ use Rattle.fp_base.proofs.Known.{Appends-nil, Appends-more}
 use Rattle.fp_group_commit.specs.Tokens.{FrontState, Identity, front_revision}
 use Rattle.fp_session.specs.Asks.{Ask}
 use Rattle.fp_session.specs.Sources.{HasAsked}
-use Rattle.fp_conversations.specs.Answers.{Answer, AreAnswersTo, IsAnswerTo, IsShownAs, IsWithin, revision_in, answer_text}
-use Rattle.fp_conversations.specs.Answers.{texts_of, says_no_edit}
+use Rattle.fp_conversations.specs.Answers.{Answer, IsShownAs, IsWithin, may_want, revision_in, answer_text, texts_of}
 use Rattle.fp_conversations.specs.Editing.{IsNoLess, IsServed}
+use Rattle.fp_conversations.specs.Outcomes.{AreAnswersTo, IsAnswerTo, answer_to_outcome}
 
 -- ---- answers, one behind the other
 
@@ -45,10 +45,18 @@ all_within-more told more bs less all = λ k d below. within-more told more (sli
 
 -- ---- what is shown of an answer
 
+-- what is shown of what is shown
+shown-again : (a b c : Answer) → IsShownAs a b → IsShownAs b c → IsShownAs a c
+shown-again a b c first (inl same) = subst (IsShownAs a) (sym same) first
+shown-again a b c (inl same) (inr wanting) = inr (subst (λ (x : Answer). may_want x ≡ true) same wanting.0, wanting.1)
+shown-again a b c (inr first) (inr wanting) = inr (first.0, wanting.1)
+
 pub shown-answers : (x : Ask) (a b : Answer) → IsAnswerTo x a → IsShownAs a b → IsAnswerTo x b
-shown-answers x a b answers (inl same) = subst (IsAnswerTo x) (sym same) answers
+shown-answers (Err f) a b answers (inl same) = subst (IsAnswerTo (Err f)) (sym same) answers
 shown-answers (Err f) a b answers (inr wanting) = inr wanting.1
-shown-answers (Ok edit) a b answers (inr wanting) = ap says_no_edit wanting.1
+shown-answers (Ok edit) a b (inl by) like = inl (by.0, by.1, shown-again (answer_to_outcome by.0) a b by.2 like)
+shown-answers (Ok edit) a b (inr wanted) (inl same) = inr (same ∙ wanted)
+shown-answers (Ok edit) a b (inr wanted) (inr wanting) = inr wanting.1
 
 pub shown-within : (told : Option FrontState) (a b : Answer) → IsWithin told a → IsShownAs a b → IsWithin told b
 shown-within told a b within (inl same) = subst (IsWithin told) (sym same) within

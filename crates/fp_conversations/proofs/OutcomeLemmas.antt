@@ -1,5 +1,5 @@
 -- What a line of an editor comes to answers it.
-use Rattle.std.proofs.Common.{◌≡◌, ℕ, Option, None, Some, Ok, Err, IfSome, IsSomeAnd, Result, false, refl, sym, subst, inl, inr}
+use Rattle.std.proofs.Common.{◌≡◌, ℕ, Option, None, Some, Ok, Err, IfSome, IsSomeAnd, Result, refl, sym, subst, inl, inr}
 use Rattle.fp_desk.specs.declared.fault.SubmitFault.{SubmitFault}
 use Rattle.fp_desk.specs.declared.fault.SubmitFault.TheVariants as submit
 use Rattle.fp_edit.specs.Edits.{Proposal, proposal_of}
@@ -19,8 +19,8 @@ use Rattle.fp_session.specs.Progress.{AsksFor}
 use Rattle.fp_session.specs.Reply as flags
 use Rattle.fp_session.specs.Reply.{fault_of, fault_in, bad_flag_or_memory, bad_flag_in_or_memory, refusal_of, reply_of_code}
 use Rattle.fp_session.specs.declared.reply.Reply as code
-use Rattle.fp_conversations.specs.Answers.{Answer, reply, IsAnswerTo, IsWithin, answer_to_refusal, says_no_edit}
-use Rattle.fp_conversations.specs.Outcomes.{ComesTo, IsToldBy, IsToldOf, answer_to_line, answer_to_outcome, told_by, told_of}
+use Rattle.fp_conversations.specs.Answers.{Answer, reply, IsWithin, answer_to_refusal}
+use Rattle.fp_conversations.specs.Outcomes.{ComesTo, IsAnswerTo, IsOutcomeOf, IsToldBy, IsToldOf, answer_to_line, answer_to_outcome, told_by, told_of}
 use Rattle.fp_conversations.specs.declared.answer.Answered.{Answered}
 use Rattle.fp_conversations.specs.declared.answer.Answered.TheVariants as came
 use Rattle.fp_conversations.specs.declared.answer.Outcome.{Outcome}
@@ -32,31 +32,29 @@ Fits x told a = IsAnswerTo x a × IsWithin told a
 
 -- ---- what became of an edit
 
-abbrev IsOfEdit : Option FrontState → Answer → Type 0
-IsOfEdit told a = (says_no_edit a ≡ false) × IsWithin told a
+fault-within : (f : EditFault) → IsWithin None (reply (refusal_of f))
+fault-within (edit.Conflict current) = tt
+fault-within (edit.ConflictIn at current) = tt
+fault-within edit.SetTooLarge = tt
+fault-within edit.RevisionsUsed = tt
+fault-within edit.Memory = tt
 
-of_fault : (f : EditFault) → IsOfEdit None (reply (refusal_of f))
-of_fault (edit.Conflict current) = (refl, tt)
-of_fault (edit.ConflictIn at current) = (refl, tt)
-of_fault edit.SetTooLarge = (refl, tt)
-of_fault edit.RevisionsUsed = (refl, tt)
-of_fault edit.Memory = (refl, tt)
+refusal-within : (f : SubmitFault) → IsWithin None (answer_to_refusal f)
+refusal-within submit.Stopped = tt
+refusal-within submit.QueueFull = tt
+refusal-within (submit.Edit f) = fault-within f
+refusal-within submit.Memory = tt
 
-of_refusal : (f : SubmitFault) → IsOfEdit None (answer_to_refusal f)
-of_refusal submit.Stopped = (refl, tt)
-of_refusal submit.QueueFull = (refl, tt)
-of_refusal (submit.Edit f) = of_fault f
-of_refusal submit.Memory = (refl, tt)
+outcome-within : (store : Identity) (o : Outcome) → IsToldBy store o → IsWithin (told_by o) (answer_to_outcome o)
+outcome-within store (Kept ticket told) ours = ours.1
+outcome-within store (Refused refusal) ours = refusal-within refusal.fault
+outcome-within store (Unknown given_up) ours = tt
 
-of_outcome : (store : Identity) (o : Outcome) → IsToldBy store o → IsOfEdit (told_by o) (answer_to_outcome o)
-of_outcome store (Kept ticket told) ours = (refl, ours.1)
-of_outcome store (Refused refusal) ours = of_refusal refusal.fault
-of_outcome store (Unknown given_up) ours = (refl, tt)
-
-outcome-fits : (store : Identity) (x : Ask) (p : Proposal) (o : Outcome) → x ≡ Ok p → IsToldBy store o →
+outcome-fits : (store : Identity) (x : Ask) (p : Proposal) (o : Outcome) → x ≡ Ok p → IsOutcomeOf p o → IsToldBy store o →
     Fits x (told_by o) (answer_to_outcome o)
-outcome-fits store x p o asks ours =
-    let of = of_outcome store o ours in (subst (λ (y : Ask). IsAnswerTo y (answer_to_outcome o)) (sym asks) of.0, of.1)
+outcome-fits store x p o asks own ours =
+    let answers : IsAnswerTo (Ok p) (answer_to_outcome o) = inl (o, own, inl refl) in
+    (subst (λ (y : Ask). IsAnswerTo y (answer_to_outcome o)) (sym asks) answers, outcome-within store o ours)
 
 -- ---- a line that is no edit
 
@@ -67,7 +65,7 @@ fault-fits x e told = by_fault e told
     stands f h = (subst (λ (y : Ask). IsAnswerTo y (reply (flags.no_edit f))) (sym h) (inl refl), tt)
 
     wanting : (y : Ask) → IsAnswerTo y (reply flags.out_of_memory)
-    wanting (Ok p) = refl
+    wanting (Ok p) = inr refl
     wanting (Err f) = inr refl
 
     of_flag : (o : Option _) → IsSomeAnd o (λ f. x ≡ Err (line.bad_flag f)) → Fits x None (reply (bad_flag_or_memory o))
@@ -105,7 +103,7 @@ fault-fits x e told = by_fault e told
 
 pub answered-fits : (store : Identity) (asked : Result Edit LineFault) (a : Answered) (x : Ask) → ComesTo asked a →
     IsToldOf store a → AsksFor asked x → Fits x (told_of a) (answer_to_line a)
-answered-fits store (Ok edit) (came.Edit o) x own ours asks = outcome-fits store x (proposal_of edit) o asks ours
+answered-fits store (Ok edit) (came.Edit o) x own ours asks = outcome-fits store x (proposal_of edit) o asks own ours
 answered-fits store (Ok edit) (came.NoEdit said) x own ours asks = absurd own
 answered-fits store (Err fault) (came.Edit o) x own ours asks = absurd own
 answered-fits store (Err fault) (came.NoEdit said) x own ours asks =

@@ -1,5 +1,5 @@
 -- Frames, one behind the other.
-use Rattle.std.proofs.Common.{◌≡◌, ◌<◌, ◌≤◌, ◌^◌, ℕ, List, [], ◌∷◌, ◌++◌, Option, length, map, refl, sym, ap, subst, ◌∙◌, append-nil, arith}
+use Rattle.std.proofs.Common.{◌≡◌, ◌<◌, ◌≤◌, ◌+◌, ◌-◌, ◌^◌, ℕ, List, [], ◌∷◌, ◌++◌, Option, length, map, sym, ap, subst, ◌∙◌, append-nil, arith}
 use Rattle.std.proofs.lemmas.List.{map-append}
 use Rattle.std.proofs.lemmas.List.Elements.{All-push}
 use Rattle.std.specs.Io.KnownBytes.{Appends}
@@ -10,17 +10,26 @@ use Rattle.fp_stream.specs.Frames.{AreNews, frame, has_after, stream_of}
 use Rattle.fp_stream.specs.Heads.{IsNewer}
 use Rattle.fp_stream.specs.declared.head.TheConstants.{MOST_BODY}
 use Rattle.fp_stream.specs.declared.hello.Hello.{Hello}
-use Rattle.fp_stream.specs.declared.hello.Hello.TheVariants.{Has}
+use Rattle.fp_stream.specs.declared.hello.Hello.TheVariants.{Has, Nothing}
 use Rattle.fp_stream.proofs.Streams.{AreNews-append, has_after-append, stream_of-append}
 use Rattle.fp_conversations.specs.Sending.{IsSent, snapshot_of}
 
+-- how many revisions may be news yet
+abbrev pub news_left : Hello → ℕ
+news_left Nothing = 2 ^ 64 + 1
+news_left (Has n) = 2 ^ 64 - n
+
+pub fewer_left : (has : Hello) (n : ℕ) → IsNewer has n → n < 2 ^ 64 → news_left (Has n) < news_left has
+fewer_left Nothing n newer fits = omega (arith, fits)
+fewer_left (Has m) n newer fits = omega (arith, newer, fits)
+
 -- nothing was sent yet
-pub sent-none : (store : Identity) (had : Hello) (held : Option (List ℕ)) → IsSent store had had held held
-sent-none store had held = record {
+pub sent-none : (store : Identity) (had has : Hello) (held : Option (List ℕ)) → has ≡ had → IsSent store had has held held
+sent-none store had has held same = record {
   fronts = [];
   ours = λ k d below. absurd (omega (arith, below));
   news = tt;
-  now = refl;
+  now = same;
   written = Appends-nil held;
 }
 

@@ -1,9 +1,8 @@
 -- What an editor is answered.
 use Rattle.std.specs.Prelude.{◌≡◌, ◌⊎◌, ◌≤◌, ℕ, List, [], ◌∷◌, ◌++◌, codes, Bool, true, false}
-use Rattle.std.specs.Prelude.{Option, Some, None, Ok, Err, IfSome, IsSomeAnd}
+use Rattle.std.specs.Prelude.{Option, Some, None, IfSome, IsSomeAnd}
 use Rattle.fp_group_commit.specs.Tokens.{FrontState, front_revision}
 use Rattle.fp_streams.specs.Said.{AppendsLine}
-use Rattle.fp_session.specs.Asks.{Ask}
 use Rattle.fp_session.specs.Reply as flags
 use Rattle.fp_session.specs.Reply.{Reply, error_text, reply_of_code}
 use Rattle.fp_desk.specs.declared.fault.SubmitFault.{SubmitFault}
@@ -44,35 +43,6 @@ abbrev pub revision_in : Answer → Option ℕ
 revision_in (reply r) = revision_of_reply r
 revision_in queue_full = None
 revision_in stopped = None
-
--- whether a reply says why its line is no edit
-abbrev pub is_of_no_edit : Reply → Bool
-is_of_no_edit (flags.revision n) = false
-is_of_no_edit (flags.conflict current) = false
-is_of_no_edit (flags.conflict_in at current) = false
-is_of_no_edit flags.set_too_large = false
-is_of_no_edit flags.revisions_used = false
-is_of_no_edit (flags.no_edit f) = true
-is_of_no_edit flags.out_of_memory = false
-is_of_no_edit flags.store_failed = false
-
-abbrev pub says_no_edit : Answer → Bool
-says_no_edit (reply r) = is_of_no_edit r
-says_no_edit queue_full = false
-says_no_edit stopped = false
-
--- a line that is no edit is told why, and an edit what became of it; of
--- either memory may be wanting
-abbrev pub IsAnswerTo : Ask → Answer → Type 0
-IsAnswerTo (Err fault) a = (a ≡ reply (flags.no_edit fault)) ⊎ (a ≡ reply flags.out_of_memory)
-IsAnswerTo (Ok edit) a = says_no_edit a ≡ false
-
--- each is answered, in order
-abbrev pub AreAnswersTo : List Ask → List Answer → Type 0
-AreAnswersTo [] [] = Unit {0}
-AreAnswersTo [] (a ∷ bs) = ⊥
-AreAnswersTo (x ∷ xs) [] = ⊥
-AreAnswersTo (x ∷ xs) (a ∷ bs) = IsAnswerTo x a × AreAnswersTo xs bs
 
 -- what an edit that wasn't taken is answered: why
 abbrev pub answer_to_refusal : SubmitFault → Answer

@@ -4,7 +4,8 @@ use Rattle.std.specs.Io.KnownBytes.{Appends}
 use Rattle.fp_group_commit.specs.Tokens.{FrontState, Identity, front_revision}
 use Rattle.fp_session.specs.Asks.{Ask, asked_by_input}
 use Rattle.fp_session.specs.Requests.{IsHttpRequest, first_line}
-use Rattle.fp_conversations.specs.Answers.{Answer, AreAnswersTo, IsWithin, texts_of}
+use Rattle.fp_conversations.specs.Answers.{Answer, IsWithin, texts_of}
+use Rattle.fp_conversations.specs.Outcomes.{AreAnswersTo}
 use Rattle.fp_conversations.specs.declared.editor.EditorEnd.{EditorEnd}
 use Rattle.fp_conversations.specs.declared.editor.EditorEnd.TheVariants.{Served, HttpRequest}
 

@@ -1,13 +1,14 @@
 -- What a line of an editor comes to, and what becomes of an edit that it hands in.
-use Rattle.std.specs.Prelude.{◌≡◌, ◌≤◌, Option, Some, None, Result, Ok, Err}
+use Rattle.std.specs.Prelude.{◌≡◌, ◌⊎◌, ◌≤◌, List, [], ◌∷◌, Option, Some, None, Result, Ok, Err}
 use Rattle.fp_edit.specs.Edits.{Proposal, proposal_of}
 use Rattle.fp_edit.specs.declared.edit.Edit.{Edit}
 use Rattle.fp_edit.specs.declared.line.LineFault.{LineFault}
 use Rattle.fp_group_commit.specs.Tokens.{FrontState, Identity, front_revision}
+use Rattle.fp_session.specs.Asks.{Ask}
 use Rattle.fp_session.specs.Reply as flags
 use Rattle.fp_session.specs.Reply.{reply_of_code}
 use Rattle.fp_session.specs.declared.reply.Reply.TheVariants as code
-use Rattle.fp_conversations.specs.Answers.{Answer, answer_to_refusal, reply}
+use Rattle.fp_conversations.specs.Answers.{Answer, IsShownAs, answer_to_refusal, reply}
 use Rattle.fp_conversations.specs.declared.answer.Answered.{Answered}
 use Rattle.fp_conversations.specs.declared.answer.Answered.TheVariants as came
 use Rattle.fp_conversations.specs.declared.answer.Outcome.{Outcome}
@@ -37,6 +38,21 @@ abbrev pub told_by : Outcome → Option FrontState
 told_by (Kept ticket told) = Some told
 told_by (Refused refusal) = None
 told_by (Unknown given_up) = None
+
+-- ---- what is asked
+-- an edit is answered by what became of that edit, and a line that is no edit
+-- is told why; to read either memory may be wanting
+abbrev pub IsAnswerTo : Ask → Answer → Type 0
+IsAnswerTo (Ok edit) a = ((outcome : Outcome) × IsOutcomeOf edit outcome
+    × IsShownAs (answer_to_outcome outcome) a) ⊎ (a ≡ reply flags.out_of_memory)
+IsAnswerTo (Err fault) a = (a ≡ reply (flags.no_edit fault)) ⊎ (a ≡ reply flags.out_of_memory)
+
+-- each is answered, in order
+abbrev pub AreAnswersTo : List Ask → List Answer → Type 0
+AreAnswersTo [] [] = Unit {0}
+AreAnswersTo [] (a ∷ bs) = ⊥
+AreAnswersTo (x ∷ xs) [] = ⊥
+AreAnswersTo (x ∷ xs) (a ∷ bs) = IsAnswerTo x a × AreAnswersTo xs bs
 
 -- ---- a line
 

@@ -1,11 +1,15 @@
 -- What a subscriber is sent.
-use Rattle.std.specs.Prelude.{◌≡◌, ◌<◌, ℕ, List, Option, All, map, Result, Ok, Err}
+use Rattle.std.specs.Prelude.{◌≡◌, ◌<◌, ℕ, List, length, Option, All, map, Result, Ok, Err}
 use Rattle.std.specs.Io.KnownBytes.{Appends, Consumes}
 use Rattle.fp_documents.specs.Document.{document}
 use Rattle.fp_group_commit.specs.Tokens.{FrontState, Identity, front_revision, front_set}
 use Rattle.fp_stream.specs.Frames.{AreNews, Snapshot, has_after, stream_of}
+use Rattle.fp_stream.specs.Heads.{IsNewer}
 use Rattle.fp_stream.specs.Hellos.{Hears, hello_bytes}
+use Rattle.fp_stream.specs.declared.head.TheConstants.{MOST_BODY}
 use Rattle.fp_stream.specs.declared.hello.Hello.{Hello}
+use Rattle.fp_conversations.specs.declared.subscriber.Served.{Served}
+use Rattle.fp_conversations.specs.declared.subscriber.Served.TheVariants.{Over, Long}
 use Rattle.fp_conversations.specs.declared.subscriber.SubscriberFault.{SubscriberFault}
 use Rattle.fp_conversations.specs.declared.subscriber.SubscriberFault.TheVariants as fault
 
@@ -23,9 +27,22 @@ pub record IsSent (store : Identity) (had has : Hello)
   pub now : has ≡ has_after had (map snapshot_of fronts)
   pub written : Appends before held (stream_of (map snapshot_of fronts))
 
+-- some front of this store is news to who has this, and no frame takes its document
+pub record IsTooLong (store : Identity) (has : Hello) : Type 0 where
+  pub front : FrontState
+  pub ours : front.store ≡ store
+  pub news : IsNewer has (front_revision front)
+  pub long : MOST_BODY < length (document (front_set front).flags)
+
+-- why the frames of a seat ended where the writer didn't fail: the subscriber gets nothing more, or
+-- what is news to it is too long
+abbrev pub IsCause : Identity → Hello → Served → Type 0
+IsCause store has (Over gone) = Unit {0}
+IsCause store has Long = IsTooLong store has
+
 -- A reader gave a hello, and a writer that failed so often before and after got what is news behind
--- it. Where no hello came, or there was no seat, nothing was written; a failure of the writer is
--- counted where one ended it
+-- it, and nothing of a document that is too long. Where no hello came, or there was no seat, nothing
+-- was written; a failure of the writer is counted where one ended it
 abbrev pub Serves : Identity → Option (List ℕ) → Option (List ℕ) → Option (List ℕ)
     → Option (List ℕ) → ℕ → ℕ → Result (Unit {0}) SubscriberFault → Type 0
 Serves store reads left before held failed fails (Ok x) = (fails ≡ failed)
@@ -35,4 +52,7 @@ Serves store reads left before held failed fails (Err (fault.Hello f)) = (fails 
     × Hears reads left (Err f)
 Serves store reads left before held failed fails (Err fault.SeatsUsed) = (fails ≡ failed)
     × ((had : Hello) × Consumes reads left (hello_bytes had))
+Serves store reads left before held failed fails (Err fault.TooLong) = (fails ≡ failed)
+    × ((had : Hello) × (has : Hello) × Consumes reads left (hello_bytes had)
+    × IsSent store had has before held × IsTooLong store has)
 Serves store reads left before held failed fails (Err fault.Device) = failed < fails

@@ -1,13 +1,13 @@
 -- A hall whose desk draws and settles, and a course of the half beside it.
-use Rattle.std.proofs.Common.{◌≡◌, ◌⊎◌, ◌<◌, ◌++◌, ◌∷◌, ℕ, Ok, Err, Some, None, inl, inr, false, List, [], length, sym}
-use Rattle.std.proofs.Common.{ap, subst, ◌∙◌, arith}
-use Rattle.std.specs.Prelude.{IfNone, IfOk, MatchOption, OnErr, Option, Result}
+use Rattle.std.proofs.Common.{◌≡◌, ◌⊎◌, ◌<◌, ◌≤◌, ◌++◌, ◌∷◌, ℕ, Ok, Err, Some, None, inl, inr, false, List, [], length, sym}
+use Rattle.std.proofs.Common.{ap, subst, ◌∙◌, arith, length-append}
+use Rattle.std.specs.Prelude.{IfNone, IfOk, IfSome, MatchOption, OnErr, Option, Result}
 use Rattle.fp_desk.specs.Desk.{DeskState, IsNewDraw, settled_front}
 use Rattle.fp_disk.specs.Crashes.{EachCrash}
 use Rattle.fp_disk.specs.Outcomes.{IsOutcome}
 use Rattle.fp_disk.specs.declared.disk.Disk.{Ghosts}
 use Rattle.fp_edit.specs.Edits.{Change}
-use Rattle.fp_group_commit.specs.Tokens.{FrontState, Identity}
+use Rattle.fp_group_commit.specs.Tokens.{FrontState, Identity, front_revision}
 use Rattle.fp_publish.specs.Fronts.{Begins}
 use Rattle.fp_record.specs.Group.{Group}
 use Rattle.fp_committer.specs.Committer.{DeskHalfState, HaveDrawn}
@@ -59,6 +59,19 @@ orderly_then store desk_lists store_lists h n b m X (Ok (Some count)) w drawn no
 orderly_then store desk_lists store_lists h n b m X (Err e) w drawn none unchanged =
     subst (λ (d : DeskHalfState). IsOrderly store desk_lists store_lists (record h { desk = d.desk; half = d.half }))
     (sym unchanged.0) w
+
+-- ---- what is shown
+-- a front reaches as far as one that begins it
+begins_reaches : (f g : FrontState) → Begins f g → front_revision f ≤ front_revision g
+begins_reaches f g begins =
+    let start = ap (λ (s : Identity). s.start.revision) begins.0 in
+    let parts = sym (length-append f.edits begins.1.0) ∙ ap length begins.1.1 in omega (arith, start, parts)
+
+-- what is shown of what was told reaches it
+pub shown_reaches : (told shown : FrontState) (X : Type 0) (o : Option FrontState) →
+    MatchOption o X (λ s. (s ≡ shown) × Begins told s) → IfSome o (λ s. front_revision told ≤ front_revision s)
+shown_reaches told shown X None is = tt
+shown_reaches told shown X (Some s) is = begins_reaches told s is.1
 
 -- ---- the half of a plane
 pub ours_on : {D : Type 0} (disk : Ghosts D) (store : Identity) (desk_lists store_lists : Names)

@@ -1,5 +1,6 @@
 -- What a plane's lock keeps, and whose committer's halves there are.
-use Rattle.std.specs.Prelude.{◌≡◌, ◌⊎◌, ◌<◌, ◌||◌, ℕ, Bool, true, false, List, [], Option, None, All}
+use Rattle.std.specs.Prelude.{◌≡◌, ◌⊎◌, ◌<◌, ◌+◌, ◌||◌, ℕ, Bool, true, false, List, [], length, Option, None}
+use Rattle.std.specs.Prelude.{All}
 use Rattle.fp_committer.specs.Committer.{DeskHalfState}
 use Rattle.fp_committer.specs.Halves.{HalfState, Names}
 use Rattle.fp_committer.specs.StoreHalf.{StoreHalfState}
@@ -46,6 +47,10 @@ pub record IsStoreOf {D : Type 0} (store : Identity) (desk_lists store_lists : N
     (h : StoreHalfState D) : Type 0 where
   pub ours : h.store.store ≡ store
   pub named : IsNamed store_lists desk_lists h.half
+
+-- the last revision that is settled of the store's half
+abbrev pub settled_by : {D : Type 0} → StoreHalfState D → ℕ
+settled_by h = h.store.store.start.revision + length h.half.settled
 
 -- ---- halls
 -- an edit that wasn't taken, and why

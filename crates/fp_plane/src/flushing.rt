@@ -3,14 +3,15 @@
 //! Behind each batch a step of a compaction is owed: who draws one owes it, and nobody draws while
 //! one is owed.
 
-ghost use Rattle.std.specs.Prelude.{◌≡◌, ◌⊎◌, ◌<◌, ◌∷◌, [], true, false, IfErr, IfOk, OnErr};
+ghost use Rattle.std.specs.Prelude.{◌≡◌, ◌⊎◌, ◌<◌, ◌≤◌, ◌∷◌, [], true, false, IfErr, IfOk, OnErr};
 ghost use Rattle.std.specs.Prelude.{OnOk, is_ok};
 ghost use Rattle.fp_edit.specs.Edits.{proposal_of};
 ghost use Rattle.fp_committer.specs.Course.{Course, LacksRoom, ListsOn};
 ghost use Rattle.fp_committer.specs.StoreHalf.{StoreHalfState};
 ghost use Rattle.fp_committer.specs.Way.{batch_drawn, batch_sealed, nothing_drawn};
+ghost use Rattle.fp_group_commit.specs.Tokens.{front_revision};
 ghost use Rattle.fp_plane.specs.Flushing.{Flushes, IsResting, PaysEach, StepsWhereDue};
-ghost use Rattle.fp_plane.specs.Hall.{IsStoreOf};
+ghost use Rattle.fp_plane.specs.Hall.{IsStoreOf, settled_by};
 ghost use Rattle.fp_plane.specs.declared.flushing.Lull.TheVariants.{Alone};
 
 use crate::gathering::{Gathering, Sealing};
@@ -26,7 +27,9 @@ use fp_desk::Ticket;
 use fp_disk::Disk;
 use fp_edit::Edit;
 use fp_fronts::Front;
+use fp_group_commit::Told;
 use fp_log::{Event, tell};
+use fp_publish::Shown;
 use log::Log;
 use std::sync::{MutexGuard, Wait};
 use std::time::Clock;
@@ -158,16 +161,18 @@ where
     if !drawn {
         return (submitted, Ok(()));
     }
-    let flushed = flush(plane, half, gathering);
-    (submitted, flushed)
+    match flush(plane, half, gathering) {
+        Ok(_shown) => (submitted, Ok(())),
+        Err(failure) => (submitted, Err(failure)),
+    }
 }
 
-// Seals, settles and shows what is drawn.
+// Seals, settles and shows what is drawn, and gives what is shown.
 fn flush<K, D, R>(
     plane: &Plane<K, R>,
     half: &mut StoreHalf<D>,
     gathering: &mut Gathering,
-) -> Result<(), UntoldFailure>
+) -> Result<Shown, UntoldFailure>
 where
     K: Naming,
     D: Disk,
@@ -177,6 +182,8 @@ where
     requires well { half.old.store.failed ≡ false }
     ensures course { Course D.Disk half.old half.new }
     ensures rest { OnOk result (IsResting half.new) }
+    // `Ok`: what is settled is shown.
+    ensures shown { IfOk result (λ s. settled_by half.new ≤ front_revision s) }
     ensures no_failure { OnOk result
         (D.faults half.new.store.disk ≡ D.faults half.old.store.disk) }
     ensures cause { OnErr result ((D.faults half.old.store.disk < D.faults half.new.store.disk)
@@ -187,10 +194,10 @@ where
     seal(&plane.shared.rt, half)?;
     let told = sealing.edits(half.store());
     let taken = sealing.taken(&plane.shared.rt);
-    let waiting = plane.settle(half);
+    let (waiting, shown) = plane.settle(half);
     gathering.note_told(told, waiting, taken);
     before.tell_since(&plane.shared.rt, half.store());
-    Ok(())
+    Ok(shown)
 }
 
 // Seals what is drawn. Where memory is wanting it is tried again.
@@ -305,31 +312,35 @@ impl<K: Naming, R: Wait + Clock + Drop> Plane<K, R> {
     }
 
     // Settles what is sealed, shows it and tells those whose edits it has, and the subscribers.
-    // Answers how many edits waited then.
-    fn settle<D: Disk>(&self, half: &mut StoreHalf<D>) -> usize
+    // Answers how many edits waited then, and what is shown.
+    fn settle<D: Disk>(&self, half: &mut StoreHalf<D>) -> (usize, Shown)
         requires ours { IsStoreOf K.store K.desk_lists K.store_lists half.old }
         requires sealed { half.old.progress ≡ batch_sealed }
         // What was sealed is settled, and a crash keeps it from then on.
         ensures settled { ListsOn D.Disk half.old half.new }
         // Nothing is drawn any more.
         ensures none { half.new.progress ≡ nothing_drawn }
+        // What is settled is shown.
+        ensures shown { settled_by half.new ≤ front_revision result.1 }
     {
         let shared = &self.shared;
         for _ in shared.rt.forever() {
             let mut hall = shared.hall.lock(&shared.rt);
             let before = hall.settled_revision();
-            if let Ok(settled) = hall.settle(half) {
-                let shown = hall.publish();
+            if hall.settle(half).is_ok() {
+                let told = hall.told();
+                let published = hall.publish();
                 let waiting = hall.waiting_count();
 
                 // Who is woken wants the lock.
                 drop(hall);
                 half.rest();
-                match (settled, shown) {
-                    (Some(last), Ok(())) => self.tell(before, last),
-                    _ => self.publish(),
-                }
-                return waiting;
+                let shown = match published {
+                    Ok(shown) => shown,
+                    Err(_) => self.publish(&told),
+                };
+                self.tell(before, &shown);
+                return (waiting, shown);
             }
             drop(hall);
             pause(&shared.rt);
@@ -337,9 +348,10 @@ impl<K: Naming, R: Wait + Clock + Drop> Plane<K, R> {
         unreachable!()
     }
 
-    // Wakes the editors of the revisions behind one, up to the last, and the subscribers.
-    fn tell(&self, behind: u64, last: u64) {
-        self.shared.bells.ring(behind, last);
+    // Wakes the editors of the revisions behind one, up to the last that is shown, and the
+    // subscribers.
+    fn tell(&self, behind: u64, shown: &Shown) {
+        self.shared.bells.ring(behind, shown.revision());
         self.shared.news.notify_all();
     }
 
@@ -349,17 +361,23 @@ impl<K: Naming, R: Wait + Clock + Drop> Plane<K, R> {
         self.shared.news.notify_all();
     }
 
-    // Shows what is settled, as soon as there is memory for it, and tells all.
-    fn publish(&self) {
+    // Shows what is settled, as soon as there is memory for it: at least what was told.
+    fn publish(&self, told: &Told) -> Shown
+        requires ours { told.now.store ≡ K.store }
+        ensures shown { front_revision told.now ≤ front_revision result }
+    {
         let shared = &self.shared;
         for _ in shared.rt.forever() {
             pause(&shared.rt);
-            let shown = shared.hall.lock(&shared.rt).publish();
-            if shown.is_ok() {
-                self.tell_all();
-                return;
+            let mut hall = shared.hall.lock(&shared.rt);
+
+            // Where memory is wanting still, what is shown is behind what was told.
+            let _ = hall.publish();
+            if let Some(shown) = hall.shown(told) {
+                return shown;
             }
         }
+        unreachable!()
     }
 
     /// No batch is drawn any more, since sealing failed. Wakes all who wait, and the flusher: that

@@ -13,7 +13,7 @@ ghost use Rattle.fp_publish.specs.Fronts.{Begins};
 ghost use Rattle.fp_publish.specs.declared.board.TheConstants.{MOST_EVALUATORS};
 ghost use Rattle.std.specs.Vec.{vec_capacity};
 ghost use Rattle.fp_plane.specs.Hall.{IsAtRest, IsDeskOf, IsNew, IsNewDesk, IsOver, IsStoreOf};
-ghost use Rattle.fp_plane.specs.Hall.{IsUnanswered, desk_of};
+ghost use Rattle.fp_plane.specs.Hall.{IsUnanswered, desk_of, settled_by};
 
 mod lending;
 mod tokens;
@@ -30,7 +30,7 @@ use std::alloc::{AllocError, Global};
 use std::marker::{Model, PhantomData};
 use std::snapshot::Snapshot;
 use std::sync::Wait;
-pub use tokens::{AllSettled, GivenUp, Refusal};
+pub use tokens::{AllSettled, GivenUp, Gone, Refusal};
 
 /// Somebody has each evaluator.
 #[derive(Debug, Drop, Clone, Copy, PartialEq, Eq)]
@@ -258,6 +258,15 @@ impl<K: Naming, R: Wait + Drop> Hall<K, R> {
         self.desk.desk().settled_revision()
     }
 
+    /// Tells all that is settled.
+    pub fn told(&self) -> Told
+        ensures front { result ≡ settled_front self.now.desk }
+        // It is of the plane's store.
+        ensures ours { result.store ≡ K.store }
+    {
+        self.desk.desk().told()
+    }
+
     /// Settles what is sealed of the store's half, and answers the last revision that is settled.
     pub fn settle<D: Disk>(&mut self, store: &mut StoreHalf<D>) -> Result<Option<u64>, AllocError>
         // The half is the store's of the committer that `K` names.
@@ -269,6 +278,8 @@ impl<K: Naming, R: Wait + Drop> Hall<K, R> {
         ensures settled { IfOk result (λ o. MatchOption o (store.old.progress ≢ batch_sealed)
             (λ revision. HaveSettled (desk_of self.old) (desk_of self.new)
             store.old store.new revision)) }
+        // Both halves agree on the last revision that is settled.
+        ensures agree { settled_by store.new ≡ settled_revision self.new.desk }
         // `Err`: nothing has changed.
         ensures unchanged { OnErr result ((self.new ≡ self.old) × (store.new ≡ store.old)) }
         // Nothing but the desk's half and the store's changes.
@@ -279,21 +290,31 @@ impl<K: Naming, R: Wait + Drop> Hall<K, R> {
     }
 
     /// Shows what is settled, to evaluators and subscribers.
-    pub fn publish(&mut self) -> Result<(), AllocError>
+    pub fn publish(&mut self) -> Result<Shown, AllocError>
         // `Ok`: what is shown is the settled front, and all else stays.
         ensures published { OnOk result (self.new
             ≡ record self.old { shown = settled_front self.old.desk }) }
+        // `Ok`: the `Shown` names it.
+        ensures shown { IfOk result (λ s. s ≡ self.new.shown) }
         // An `Err` changes nothing.
         ensures unchanged { OnErr result (self.new ≡ self.old) }
     {
         self.board.publish(self.desk.desk())
     }
 
-    /// Whether sealing broke off.
-    pub fn has_failed(&self) -> bool
-        ensures { result ≡ self.now.failed }
+    /// A token of what is shown, where that is no less than what was told.
+    pub fn shown(&self, told: &Told) -> Option<Shown>
+        // What was told is of the plane's store.
+        requires { told.now.store ≡ K.store }
+        // `Some` exactly where the revision that is shown is at least the told one. What is shown
+        // goes on from what was told then.
+        ensures shown { MatchOption result
+            (front_revision self.now.shown < front_revision told.now)
+            (λ s. (s ≡ self.now.shown) × Begins told.now s) }
+        // `Some`: it has at least the told revision.
+        ensures reached { IfSome result (λ s. front_revision told.now ≤ front_revision s) }
     {
-        self.has_failed
+        self.board.shown(told)
     }
 
     /// No edit is taken any more, and the plane is to stop. What waits goes on.

@@ -14,7 +14,7 @@ mod sealing;
 mod telling;
 
 pub use flushing::{Broken, Flushed, flusher};
-pub use hall::{AllSettled, EvaluatorsUsed, GivenUp, Hall, Refusal};
+pub use hall::{AllSettled, EvaluatorsUsed, GivenUp, Gone, Hall, Refusal};
 pub use naming::Naming;
 pub use owned::OwnHalf;
 pub use plane::Plane;

@@ -58,13 +58,14 @@ impl<R: Wait + Drop> OwnBoard<R> {
     }
 
     /// Shows the desk's settled set.
-    pub fn publish(&mut self, desk: &Desk) -> Result<(), AllocError>
+    pub fn publish(&mut self, desk: &Desk) -> Result<Shown, AllocError>
         requires { Begins self.old (settled_front desk.now) }
         ensures published { OnOk result (self.new ≡ settled_front desk.now) }
+        ensures shown { IfOk result (λ s. s ≡ self.new) }
         ensures unchanged { OnErr result (self.new ≡ self.old) }
     {
-        self.board.publish(&self.rt, desk)?;
-        Ok(())
+        let shown = self.board.publish(&self.rt, desk)?;
+        Ok(shown)
     }
 
     /// What evaluators take now.

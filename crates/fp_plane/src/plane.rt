@@ -6,8 +6,7 @@
 //! who stops the plane, at one condition for all. Where memory is wanting, what is under way is
 //! tried again after a millisecond, without the lock.
 
-ghost use Rattle.std.specs.Prelude.{◌≡◌, ◌≤◌, true, None, IfOk, IfErr, IfSome, MatchOption};
-ghost use Rattle.std.specs.Prelude.{MatchResult};
+ghost use Rattle.std.specs.Prelude.{◌≡◌, ◌≤◌, true, None, IfOk, IfErr, MatchResult};
 ghost use Rattle.fp_edit.specs.Edits.{proposal_of};
 ghost use Rattle.fp_group_commit.specs.Tokens.{front_revision};
 ghost use Rattle.fp_publish.specs.Fronts.{Begins};
@@ -16,7 +15,7 @@ ghost use Rattle.fp_stream.specs.declared.hello.Hello.TheVariants.{Has};
 ghost use Rattle.fp_plane.specs.Hall.{IsDeskOf, IsNewDesk};
 
 use crate::bells::Bells;
-use crate::hall::{EvaluatorsUsed, GivenUp, Hall, Refusal};
+use crate::hall::{EvaluatorsUsed, GivenUp, Gone, Hall, Refusal};
 use crate::naming::Naming;
 use crate::pausing::pause;
 use fp_committer::DeskHalf;
@@ -216,34 +215,38 @@ impl<K: Naming, R: Wait + Drop> Plane<K, R> {
 
 impl<K: Naming, R: Wait + Clock + Drop> Plane<K, R> {
     /// Waits until something is shown that the seat's subscriber hasn't got, and hands it that.
-    /// `None` where the plane was stopped or it has left, which is asked each second in which
-    /// nothing new is shown, and where the plane looks who has left.
-    pub fn handed<G: Fn() -> bool>(&self, seat: &mut Seat, has_left: &G) -> Option<Handed>
+    /// `Err` where the plane was stopped or it has left, and nowhere else: these two alone make a
+    /// `Gone`. Whether it has left is asked each second in which nothing new is shown, and where
+    /// the plane looks who has left.
+    pub fn handed<G: Fn() -> bool>(&self, seat: &mut Seat, has_left: &G) -> Result<Handed, Gone>
         // `has_left` may be called at any time.
         requires { G.IsAlwaysCallable has_left.now }
-        // `Some`: what is handed is of the plane's store.
-        ensures ours { IfSome result (λ h. h.store ≡ K.store) }
-        // `Some`: it is news to the subscriber, which has its revision from then on. `None`: the
+        // `Ok`: what is handed is of the plane's store.
+        ensures ours { IfOk result (λ h. h.store ≡ K.store) }
+        // `Ok`: it is news to the subscriber, which has its revision from then on. `Err`: the
         // seat has what it had.
-        ensures news { MatchOption result (had_by seat.new ≡ had_by seat.old)
-            (λ h. IsNews (had_by seat.old) h × (had_by seat.new ≡ Has (front_revision h))) }
+        ensures news { MatchResult result
+            (λ h. IsNews (had_by seat.old) h × (had_by seat.new ≡ Has (front_revision h)))
+            (λ _. had_by seat.new ≡ had_by seat.old) }
     {
         let shared = &self.shared;
         let mut hall = shared.hall.lock(&shared.rt);
         let mut looks = hall.looks();
         for _ in shared.rt.forever() {
             match hall.hand(seat) {
-                Ok(Some(handed)) => return Some(handed),
-                Ok(None) if hall.is_closed() => return None,
+                Ok(Some(handed)) => return Ok(handed),
                 Ok(None) => {
+                    if let Some(gone) = hall.gone() {
+                        return Err(gone);
+                    }
                     let quiet = Duration::from_secs(1);
                     let (held, waited) = shared.news.wait_timeout(&shared.rt, hall, quiet);
                     hall = held;
                     let before = mem::replace(&mut looks, hall.looks());
                     if waited.timed_out() || looks != before {
                         drop(hall);
-                        if has_left() {
-                            return None;
+                        if let Some(gone) = Gone::where_left(has_left) {
+                            return Err(gone);
                         }
                         hall = shared.hall.lock(&shared.rt);
                     }

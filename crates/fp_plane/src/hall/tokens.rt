@@ -1,7 +1,7 @@
-//! What a hall alone makes: that an edit wasn't taken, that one isn't known to be kept, and that
-//! all that was taken is settled.
+//! What a hall alone makes: that an edit wasn't taken, that one isn't known to be kept, that all
+//! that was taken is settled, and that a subscriber gets nothing more.
 
-ghost use Rattle.std.specs.Prelude.{◌≡◌};
+ghost use Rattle.std.specs.Prelude.{◌≡◌, is_some};
 
 use fp_desk::{SubmitFault, Ticket};
 use fp_edit::Edit;
@@ -44,6 +44,29 @@ impl Model for AllSettled {
     ghost Value = { Unit {0} };
 
     ghost view = { λ _. tt };
+}
+
+/// That a subscriber gets nothing more: the plane was stopped, or it has left. `Hall::gone` and
+/// `Gone::where_left` make one, and nothing else does.
+#[derive(Drop)]
+pub struct Gone {
+    pub(super) of: (),
+}
+
+impl Model for Gone {
+    ghost Value = { Unit {0} };
+
+    ghost view = { λ _. tt };
+}
+
+impl Gone {
+    /// Asks whether a subscriber has left: `Some` exactly where it is answered so.
+    pub(crate) fn where_left<G: Fn() -> bool>(has_left: &G) -> Option<Gone>
+        requires { G.IsAlwaysCallable has_left.now }
+        ensures { G.post has_left.now (is_some result) }
+    {
+        has_left().then(|| Gone { of: () })
+    }
 }
 
 /// The ticket of an edit that isn't known to be kept: no edit is settled any more, and it isn't. A

@@ -7,41 +7,56 @@ use Rattle.fp_stream.specs.Frames.{frame}
 use Rattle.fp_stream.specs.declared.head.TheConstants.{MOST_BODY}
 use Rattle.fp_stream.specs.declared.hello.Hello.{Hello}
 use Rattle.fp_conversations.specs.Sending.{IsSent}
-use Rattle.fp_conversations.proofs.SendingLemmas.{sent-more}
+use Rattle.fp_conversations.proofs.SendingLemmas.{fewer_left, news_left, sent-more}
 use Rattle.fp_conversations.proofs.subscriber.serve_seat.Goals as goal
 
--- what is too long isn't sent
+-- nothing of what is too long is sent
 pub returns-then-document-gt-MOST_BODY-clause-sent :
     goal.returns-then-document-gt-MOST_BODY-clause-sent
-returns-then-document-gt-MOST_BODY-clause-sent g c = λ had before sent. (had_by c.loop.seat, c.loop.invariant.1 had before sent)
+returns-then-document-gt-MOST_BODY-clause-sent g c = λ had before sent.
+    let front = c.in-Ok.handed in let news = c.in-Ok.ensures.news in
+    let long : MOST_BODY < length (document (front_set front).flags) = search rules in (
+      had_by c.loop-handed.seat,
+      c.loop-handed.invariant.1 had before sent,
+      record {
+        front = front;
+        ours = c.in-Ok.ensures.ours;
+        news = news.0;
+        long = long;
+      },
+    )
 
-pub loop-preserved : goal.loop-preserved
-loop-preserved g c =
-    let front = c.in-Some.handed in let news = c.in-Some.ensures.news in
+pub loop-handed-preserved : goal.loop-handed-preserved
+loop-handed-preserved g c =
+    let front = c.in-Ok.handed in let news = c.in-Ok.ensures.news in
     let counted = c.in_ok-write_frame.ensures.counted in (
-      counted ∙ c.loop.invariant.0,
+      counted ∙ c.loop-handed.invariant.0,
       λ had before sent.
-          let was = c.loop.invariant.1 had before sent in
-          let held = g.O.Write.contents c.loop.w.inner in let then = g.O.Write.contents c.write_frame.new.w.inner in
-          let text = c.document-in-loop.result.now in
+          let was = c.loop-handed.invariant.1 had before sent in
+          let held = g.O.Write.contents c.loop-handed.w.inner in let then = g.O.Write.contents c.write_frame.new.w.inner in
+          let text = c.document-in-loop-handed.result.now in
           let numbered : Appends held then (frame (front_revision front) text) =
           subst (λ (n : ℕ). Appends held then (frame n text)) c.revision.ensures
           c.in_ok-write_frame.ensures.frame in
           let written : Appends held then (frame (front_revision front) (document (front_set front).flags)) =
-          subst (λ (d : List ℕ). Appends held then (frame (front_revision front) d)) c.document-in-loop.ensures
+          subst (λ (d : List ℕ). Appends held then (frame (front_revision front) d)) c.document-in-loop-handed.ensures
           numbered in
           let fits : front_revision front < 2 ^ 64 = search rules in
           let short : length (document (front_set front).flags) ≤ MOST_BODY = search rules in
           subst (λ (h : Hello). IsSent g.K.Naming.store had h before (g.O.Write.contents c.write_frame.new.w.inner)) (sym news.1)
-          (sent-more g.K.Naming.store had (had_by c.loop.seat) before (g.O.Write.contents c.loop.w.inner)
-          (g.O.Write.contents c.write_frame.new.w.inner) front was c.in-Some.ensures.ours news.0 fits
+          (sent-more g.K.Naming.store had (had_by c.loop-handed.seat) before (g.O.Write.contents c.loop-handed.w.inner)
+          (g.O.Write.contents c.write_frame.new.w.inner) front was c.in-Ok.ensures.ours news.0 fits
           short written),
     )
 
--- the plane was stopped
-pub returns-in_default-clause-sent : goal.returns-in_default-clause-sent
-returns-in_default-clause-sent g c = λ had before sent. (had_by c.loop.seat, c.loop.invariant.1 had before sent)
+-- fewer revisions may be news
+pub loop-handed-smaller : goal.loop-handed-smaller
+loop-handed-smaller g c =
+    let front = c.in-Ok.handed in let news = c.in-Ok.ensures.news in
+    let fits : front_revision front < 2 ^ 64 = search rules in
+    subst (λ (h : Hello). news_left h < news_left (had_by c.loop-handed.seat)) (sym news.1)
+    (fewer_left (had_by c.loop-handed.seat) (front_revision front) news.0 fits)
 
--- as many were sent as a `u64` counts
-pub returns-clause-sent : goal.returns-clause-sent
-returns-clause-sent g c = λ had before sent. (had_by c.loop.seat, c.loop.invariant.1 had before sent)
+-- the plane was stopped, or it has left
+pub returns-in-Err-clause-sent : goal.returns-in-Err-clause-sent
+returns-in-Err-clause-sent g c = λ had before sent. (had_by c.loop-handed.seat, c.loop-handed.invariant.1 had before sent, tt)
