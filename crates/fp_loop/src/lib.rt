@@ -2,10 +2,10 @@
 #![tactic(auto)]
 
 mod counting;
+mod door;
 mod heard;
 mod inbox;
 mod informed;
-mod listening;
 mod member;
 mod peer;
 mod queue;
@@ -18,9 +18,9 @@ mod times;
 mod turn;
 mod turning;
 
+pub use door::Door;
 pub use inbox::{Inbox, Loops};
 pub use informed::Informed;
-pub use listening::{Door, Listening};
 pub use talk::MOST_REQUEST;
 pub use times::{Limits, Waiting, is_over_time};
 pub use turning::Loop;

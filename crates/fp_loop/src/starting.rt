@@ -1,10 +1,10 @@
-//! Threads of loops and of listeners.
+//! Threads of loops, and of who lets connections in.
 
+use crate::door::Door;
 use crate::informed::Informed;
-use crate::listening::{Door, Listening};
 use crate::turning::Loop;
+use fp_connections::{Closed, Host, Listener};
 use fp_news::News;
-use log::Log;
 use std::alloc::Global;
 use std::sync::{Arc, Wait};
 use std::thread::{JoinHandle, Threads};
@@ -30,20 +30,16 @@ where
     }
 }
 
-impl Listening {
+impl<N: News + Drop + Send + Sync + 'static> Door<N> {
     /// Lets connections in by a thread of its own, until the listener is closed.
-    pub fn start<R, N>(
-        listening: &Arc<Listening, Global>,
+    pub fn start<R: Host>(
+        self,
         rt: &R,
-        door: Door<N>,
-    ) -> io::Result<JoinHandle<()>>
-    where
-        R: Wait + Threads + Clock + Log + Copy + Send + Drop + 'static,
-        N: News + Drop + Send + Sync + 'static,
-    {
+        listener: &Arc<Listener, Global>,
+    ) -> io::Result<JoinHandle<Closed>> {
         let own = *rt;
-        let listening = Arc::try_clone(listening)?;
-        let started = thread::spawn(rt, move || listening.accept(&own, &door));
+        let listener = Arc::try_clone(listener)?;
+        let started = thread::spawn(rt, move || self.accept(&own, &listener));
         Ok(started?)
     }
 }

@@ -1,7 +1,5 @@
 //! The connections of one listener that are open.
 
-ghost use Rattle.std.specs.Prelude.{◌≡◌, is_some};
-
 use std::alloc::{AllocError, Global};
 use std::io;
 use std::net::{Shutdown, TcpStream};
@@ -64,19 +62,7 @@ impl Streams {
             let _ = stream.shutdown(how);
         }
     }
-
-    // Shows it where no stream is let in any more.
-    fn closed(&self) -> Option<AllClosed>
-        ensures { is_some result ≡ self.now.is_closed }
-    {
-        self.is_closed.then(|| AllClosed(()))
-    }
 }
-
-/// Shows that a listener's connections were closed, for good: no stream is let in any more. It is
-/// made here alone.
-#[derive(Drop)]
-pub struct AllClosed(());
 
 #[derive(Drop)]
 struct Shared<R: Drop> {
@@ -138,11 +124,6 @@ impl<R: Wait + Clock + Drop> Connections<R> {
         self.shared.left.notify_all();
     }
 
-    /// `Some` where no stream is let in any more.
-    pub fn closed(&self) -> Option<AllClosed> {
-        self.shared.streams.lock(&self.shared.rt).closed()
-    }
-
     /// Waits until none is open, for no longer than this.
     pub fn wait(&self, most: Duration) {
         let shared = &self.shared;
@@ -162,7 +143,8 @@ pub struct Place<R: Wait + Clock + Drop> {
 impl<R: Wait + Clock + Drop> Place<R> {
     /// Whether no more of its stream is read, as at a stop.
     pub fn is_closed(&self) -> bool {
-        self.connections.closed().is_some()
+        let shared = &self.connections.shared;
+        shared.streams.lock(&shared.rt).is_closed
     }
 }
 

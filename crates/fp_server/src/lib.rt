@@ -17,8 +17,8 @@ mod watching;
 
 pub use attending::attend;
 pub use fp_connections::Host;
-pub use fp_http::TimeLimits;
+pub use fp_http::{Moment, TimeLimits};
 pub use services::Addresses;
-pub use serving::{moment, serve};
+pub use serving::serve;
 pub use task::{Task, task_of};
 pub use watching::watch;

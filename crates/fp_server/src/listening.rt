@@ -2,16 +2,18 @@
 
 ghost use Rattle.std.specs.Prelude.{◌≡◌};
 
-use crate::connections::{AllClosed, Connections, Place};
+use crate::connections::{Connections, Place};
 use crate::ended::{Ended, tell_fault};
 use crate::lingering::linger;
 use crate::roles::{Role, converse};
-use fp_connections::{Host, close_listener, probe_peers};
+use fp_connections::{Closed, Host, Listener};
 use fp_disk::Disk;
 use fp_http::TimeLimits;
-use fp_log::{Event, Port, Source, tell, tell_failure};
+use fp_log::{Event, Port, tell, tell_failure};
 use fp_plane::{Naming, SealingPlane};
-use std::net::{Shutdown, SocketAddr, SocketAddrV4, TcpListener, TcpStream};
+use std::alloc::Global;
+use std::net::{Shutdown, SocketAddr, SocketAddrV4, TcpStream};
+use std::sync::Arc;
 use std::thread::JoinHandle;
 use std::time::Duration;
 use std::{io, thread};
@@ -23,10 +25,8 @@ pub struct Listening<R: Drop> {
     role: Role,
     pub(crate) bound: SocketAddr,
     limits: TimeLimits,
-    // Until the thread that accepts has it.
-    listener: Option<TcpListener>,
-    // The same, by which it is closed.
-    closing: TcpListener,
+    // The thread that accepts shares it.
+    listener: Arc<Listener, Global>,
     connections: Connections<R>,
 }
 
@@ -42,30 +42,27 @@ impl<R: Host> Listening<R> {
         Ok(Listening {
             rt: *rt,
             role,
-            bound: listener.local_addr()?,
+            bound: listener.bound(),
             limits,
-            closing: listener.try_clone()?,
-            listener: Some(listener),
+            listener: Arc::new(rt.alloc(), listener)?,
             connections: Connections::new(*rt, rt.alloc(), role.limit())?,
         })
     }
 
     /// Accepts connections in a thread of its own, and serves each in one more.
-    pub fn start<K, D>(&mut self, plane: &SealingPlane<K, D, R>) -> io::Result<()>
+    pub fn start<K, D>(&self, plane: &SealingPlane<K, D, R>) -> io::Result<()>
     where
         K: Naming + Send + Sync + 'static,
         D: Disk + Drop + Send + 'static,
     {
-        let Some(listener) = self.listener.take() else {
-            return Ok(());
-        };
+        let listener = Arc::try_clone(&self.listener)?;
         let connections = self.connections.try_copy()?;
         let plane = plane.try_copy()?;
         let own = self.rt;
         let role = self.role;
         let limits = self.limits;
-        // It ends by what only closed connections give.
-        let started: Result<JoinHandle<AllClosed>, _> = thread::spawn(&self.rt, move || {
+        // It ends by what a closed listener alone gives.
+        let started: Result<JoinHandle<Closed>, _> = thread::spawn(&self.rt, move || {
             accept(&own, &listener, role, limits, &connections, &plane)
         });
         match started {
@@ -95,7 +92,7 @@ impl<R: Host> Listening<R> {
     /// Lets no connection in any more, and ends reads or writes that wait on those that are open.
     pub fn close(&self, how: Shutdown) {
         self.connections.close(how);
-        close_listener(&self.closing);
+        self.listener.close();
     }
 
     /// Waits until no connection is open, for no longer than this.
@@ -104,63 +101,34 @@ impl<R: Host> Listening<R> {
     }
 }
 
-// Binds an address, whose connections' peers are probed. One that can't be bound is told.
-fn bind<R: Host>(rt: &R, port: Port, address: SocketAddrV4) -> io::Result<TcpListener> {
-    match TcpListener::bind(rt, address) {
-        Ok(listener) => {
-            probe_peers(&listener);
-            Ok(listener)
-        }
-        Err(reason) => {
-            tell_failure(rt, &Event::NotBound { port, address }, &reason);
-            Err(reason)
-        }
+// Binds an address. One that can't be bound is told.
+fn bind<R: Host>(rt: &R, port: Port, address: SocketAddrV4) -> io::Result<Listener> {
+    let bound = Listener::bind(rt, address);
+    if let Err(reason) = &bound {
+        tell_failure(rt, &Event::NotBound { port, address }, reason);
     }
+    bound
 }
 
-// Lets connections in until they are closed.
+// Lets connections in until the listener is closed. One that can't be served is told.
 fn accept<K, D, R>(
     rt: &R,
-    listener: &TcpListener,
+    listener: &Listener,
     role: Role,
     limits: TimeLimits,
     connections: &Connections<R>,
     plane: &SealingPlane<K, D, R>,
-) -> AllClosed
+) -> Closed
 where
     K: Naming + Send + Sync + 'static,
     D: Disk + Drop + Send + 'static,
     R: Host,
 {
-    let mut is_told = false;
-    for _ in rt.forever() {
-        let accepted = listener.accept();
-        if let Some(closed) = connections.closed() {
-            return closed;
+    listener.accept_each(rt, |stream, peer| {
+        if let Err(reason) = begin(rt, stream, peer, role, limits, connections, plane) {
+            tell_fault(rt, role.port(), peer, &reason);
         }
-        match accepted {
-            Ok((stream, peer)) => {
-                is_told = false;
-                if let Err(reason) = begin(rt, stream, peer, role, limits, connections, plane) {
-                    tell_fault(rt, role.port(), peer, &reason);
-                }
-            }
-            Err(reason) => {
-                if !is_told {
-                    tell_not_accepted(rt, &reason);
-                }
-                is_told = true;
-                // What is wanting may be there again soon.
-                thread::sleep(rt, Duration::from_millis(10));
-            }
-        }
-    }
-    unreachable!()
-}
-
-fn tell_not_accepted<R: Host>(rt: &R, reason: &io::Error) {
-    let (call, source) = ("accept", Source::Connection);
-    tell_failure(rt, &Event::CallFailed { call, source }, reason);
+    })
 }
 
 // How many milliseconds a connection waits for a place, where all are taken: for one whose peer has

@@ -4,12 +4,11 @@ use crate::connections::Place;
 use crate::ended::Ended;
 use crate::evaluations::{LentEvaluator, LoanFault};
 use crate::noted::Noted;
-use crate::serving::moment;
 use crate::until_stopped::UntilStopped;
 use fp_connections::{Host, end_untaken};
 use fp_conversations::{EditorEnd, SubscriberFault, editor_loop, subscriber_loop};
 use fp_disk::Disk;
-use fp_http::{Blocking, Note, TimeLimits, serve_ofrep};
+use fp_http::{Blocking, Moment, Note, TimeLimits, serve_ofrep};
 use fp_log::Port;
 use fp_plane::{Naming, Plane, SealingPlane};
 use fp_publish::{MOST_EVALUATORS, MOST_SEATS};
@@ -103,7 +102,7 @@ where
     };
     let clock = *rt;
     let connection = Blocking::new(Noted::new(stream), clock, limits, note);
-    let served = serve_ofrep(rt, connection, evaluator, move || moment(&clock));
+    let served = serve_ofrep(rt, connection, evaluator, move || Moment::now(&clock));
     match (kept.get(), served) {
         (Some(stop), _) => stop.into(),
         (None, Ok(_evaluator)) => Ended::ByPeer,
@@ -181,7 +180,8 @@ where
     R: Host,
 {
     match subscriber_loop(plane, r, w, || has_left(stream)) {
-        Ok(()) => Some(Ended::ByPeer),
+        Ok(_gone) => Some(Ended::ByPeer),
+        Err(SubscriberFault::TooLong) => Some(Ended::Fault(ErrorKind::FileTooLarge)),
         Err(SubscriberFault::Hello(HelloFault::Device)) | Err(SubscriberFault::Device) => None,
         Err(SubscriberFault::Hello(_)) => Some(Ended::NoHello),
         Err(SubscriberFault::SeatsUsed) => Some(Ended::NoPlace),
