@@ -9,4 +9,6 @@ with socket.create_connection((address, port)) as connection, connection.makefil
     connection.sendall(bytes(9))  # The hello of who has nothing. Who has revision N says struct.pack(">BQ", 1, N).
     while len(head := service.read(16)) == 16:
         magic, revision, length = struct.unpack(">4sQI", head)
-        print(revision, service.read(length).decode(), flush=True)
+        if magic != b"SNP1" or len(document := service.read(length)) < length:
+            sys.exit("no frame, or half of one")
+        print(revision, document.decode(), flush=True)

@@ -51,9 +51,9 @@ impl KeptFile {
 
     /// Keeps a frame in place of the one before: it is written beside it and synced, and then takes
     /// its place, so that a crash leaves one or the other. Nothing is written where what stands
-    /// at either place is no regular file.
+    /// at either place is no regular file, or at its own neither empty nor the beginning of a frame.
     pub fn keep<K: KeptFiles>(&self, files: &K, parts: &KeptParts<'_>) -> io::Result<()> {
-        files.may_write(self.path.as_str())?;
+        files.may_replace(self.path.as_str())?;
         files.may_write(self.beside.as_str())?;
         files.write(self.beside.as_str(), parts)?;
         files.rename(self.beside.as_str(), self.path.as_str())?;

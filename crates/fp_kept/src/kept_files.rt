@@ -12,6 +12,11 @@ const LONGEST: u64 = 134_217_728 + 48;
 
 const NO_FILE: &str = "what stands there, or at .new, is no regular file";
 
+const NO_FRAME: &str = "what stands there is no kept frame";
+
+// With what a frame begins.
+const BEGINNING: &[u8; 4] = b"SNP1";
+
 /// The calls by which a frame is kept: those of the system are `SystemFiles`.
 pub trait KeptFiles: Drop {
     /// All bytes of a file. A file that is longer than any kept frame may be refused.
@@ -20,6 +25,10 @@ pub trait KeptFiles: Drop {
     /// Whether a file may be made at this path: `Err` where something else stands there, as a folder
     /// or a device, also behind a link; `Ok` where nothing does.
     fn may_write(&self, path: &str) -> io::Result<()>;
+
+    /// Whether a frame may take the place of what stands at this path: of nothing, an empty file, or
+    /// one that begins as a frame does. `Err` where it is anything else.
+    fn may_replace(&self, path: &str) -> io::Result<()>;
 
     /// Makes a file of these parts, in place of one that there may be, and syncs it.
     fn write(&self, path: &str, parts: &KeptParts<'_>) -> io::Result<()>;
@@ -65,6 +74,15 @@ impl<R: Files<File = File> + Drop> KeptFiles for SystemFiles<R> {
         }
     }
 
+    fn may_replace(&self, path: &str) -> io::Result<()> {
+        self.may_write(path)?;
+        match File::open(&self.rt, path) {
+            Ok(mut file) => begins_a_frame(&mut file),
+            Err(reason) if reason.kind() == ErrorKind::NotFound => Ok(()),
+            Err(reason) => Err(reason),
+        }
+    }
+
     fn write(&self, path: &str, parts: &KeptParts<'_>) -> io::Result<()> {
         let mut file = OpenOptions::new()
             .write(true)
@@ -95,4 +113,14 @@ fn is_regular(about: &Metadata) -> io::Result<()> {
         return Ok(());
     }
     Err(io::Error::new(ErrorKind::InvalidInput, NO_FILE))
+}
+
+// What is empty, or begins as a frame does.
+fn begins_a_frame<F: Read>(file: &mut F) -> io::Result<()> {
+    let mut bytes = [0; 4];
+    let count = file.read(&mut bytes)?;
+    if count == 0 || bytes == *BEGINNING {
+        return Ok(());
+    }
+    Err(io::Error::new(ErrorKind::InvalidInput, NO_FRAME))
 }

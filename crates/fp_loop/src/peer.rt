@@ -1,6 +1,7 @@
 //! One connection for requests, as steps that don't wait.
 
-ghost use Rattle.std.specs.Prelude.{◌≡◌, ◌≢◌, Some, IsTrue};
+ghost use Rattle.std.specs.Prelude.{◌≡◌, ◌≢◌, ◌↔◌, Some, IfSome, IsTrue};
+ghost use Rattle.fp_loop.specs.Times.{IsOver, limit_of};
 ghost use Rattle.http_server.specs.History.{IsServed};
 ghost use Rattle.fp_loop.specs.declared.times.Waiting.TheVariants.{Leaving};
 ghost use Rattle.fp_loop.specs.declared.turn.Turn.TheVariants.{Waits};
@@ -20,6 +21,9 @@ use std::net::Shutdown;
 
 // How many reads and writes one turn may take, so that a busy connection leaves time for others.
 const ROUNDS: u32 = 16;
+
+// How many requests one turn may answer: an answer may take long.
+const CALLS: u64 = 2;
 
 // What a connection may hold of past requests and replies while it is quiet, in bytes.
 const KEPT: usize = 2048;
@@ -67,16 +71,23 @@ impl Peer {
         ensures waits { result ≡ Waits → self.new.waiting ≢ Leaving → CanDoNothing self.new }
         ensures config { config_of self.new ≡ config_of self.old }
     {
+        let calls = service.calls;
         for _ in 0..ROUNDS {
-            if let Some(turn) = self.step(service, now) {
+            if let Some(turn) = self.step(service, now, calls) {
                 return turn;
             }
         }
         Turn::Goes
     }
 
-    // Reads or writes once. Gives what the turn came to, where that ends it.
-    fn step<S: Service + Drop>(&mut self, service: &mut Counting<S>, now: u64) -> Option<Turn>
+    // Reads or writes once. Gives what the turn came to, where that ends it, which began behind so
+    // many calls of the service.
+    fn step<S: Service + Drop>(
+        &mut self,
+        service: &mut Counting<S>,
+        now: u64,
+        calls: u64,
+    ) -> Option<Turn>
         ensures talks { Talks S.answers (config_of self.old)
             service.old.service service.new.service (history_of self.old) (history_of self.new) }
         ensures waits { result ≡ Some Waits → self.new.waiting ≢ Leaving → CanDoNothing self.new }
@@ -94,6 +105,9 @@ impl Peer {
         };
         if turn == Turn::Over || (self.connection.is_done() && !self.leave(now)) {
             return Some(Turn::Over);
+        }
+        if service.calls.wrapping_sub(calls) >= CALLS {
+            return Some(Turn::Goes);
         }
         None
     }
@@ -135,7 +149,8 @@ impl Peer {
 
     // So many bytes of a request came.
     fn begin(&mut self, count: usize, now: u64)
-        ensures { self.new.connection ≡ self.old.connection }
+        ensures connection { self.new.connection ≡ self.old.connection }
+        ensures begun { IfSome self.old.begun (λ b. self.new.begun ≡ Some b) }
     {
         self.came = self.came.saturating_add(count);
         self.most = self.most.max(self.came);
@@ -254,7 +269,9 @@ impl Peer {
     }
 
     /// Whether it has kept the loop waiting for too long.
-    pub(crate) fn is_over_time(&self, limits: &Limits, now: u64) -> bool {
+    pub(crate) fn is_over_time(&self, limits: &Limits, now: u64) -> bool
+        ensures { IsTrue result ↔ IsOver (limit_of limits.now self.now.waiting) self.now.since now }
+    {
         is_over_time(limits, self.waiting, self.since, now)
     }
 

@@ -3,6 +3,7 @@
 ghost use Rattle.std.specs.Prelude.{◌≡◌};
 ghost use Rattle.fp_news.specs.Outgoing.{GoesOnTelling};
 ghost use Rattle.fp_loop.specs.Subscribers.{TellsOn};
+ghost use Rattle.fp_loop.specs.declared.turn.Turn.TheVariants.{Goes};
 
 use crate::heard::{Heard, hello_of};
 use crate::socket::{Socket, is_passing};
@@ -42,10 +43,13 @@ impl<N: News + Drop> Subscriber<N> {
     pub(crate) fn turn(&mut self, shown: &Newest<N>, tally: &mut Tally, now: u64) -> Turn
         ensures { TellsOn self.old.outgoing self.new.outgoing }
     {
-        match self.listen(now) {
-            Turn::Over => Turn::Over,
-            Turn::Goes => Turn::Goes,
-            Turn::Waits => self.tell(shown, tally, now),
+        let heard = self.listen(now);
+        if heard == Turn::Over {
+            return heard;
+        }
+        match self.tell(shown, tally, now) {
+            Turn::Waits => heard,
+            told => told,
         }
     }
 
@@ -140,7 +144,8 @@ impl<N: News + Drop> Subscriber<N> {
 
     // Sends once of the frame that is being sent.
     fn send(&mut self, tally: &mut Tally, now: u64) -> Turn
-        ensures { TellsOn self.old.outgoing self.new.outgoing }
+        ensures tells { TellsOn self.old.outgoing self.new.outgoing }
+        ensures since { result ≡ Goes → self.new.since ≡ now }
     {
         let Some(outgoing) = &mut self.outgoing else {
             return Turn::Waits;
@@ -158,7 +163,8 @@ impl<N: News + Drop> Subscriber<N> {
     }
 
     fn wait_for(&mut self, waiting: Waiting, now: u64)
-        ensures { self.new.outgoing ≡ self.old.outgoing }
+        ensures outgoing { self.new.outgoing ≡ self.old.outgoing }
+        ensures since { self.new.since ≡ now }
     {
         self.waiting = waiting;
         self.since = now;

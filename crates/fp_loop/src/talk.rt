@@ -4,6 +4,7 @@ ghost use Rattle.std.specs.Prelude.{◌≡◌, IsTrue, OnOk};
 ghost use Rattle.http_server.specs.Connection.{config_of, history};
 ghost use Rattle.http_server.specs.History.{Rests, new_history};
 ghost use Rattle.fp_loop.specs.Talks.{Serves, Hears, Rested, Says};
+ghost use Rattle.fp_loop.specs.declared.talk.TheConstants.{MOST_REQUEST};
 
 use crate::counting::Counting;
 use crate::socket::is_passing;
@@ -20,8 +21,9 @@ pub const MOST_REQUEST: usize = 65_536;
 // The longest head of a request, in bytes. A longer one is refused.
 const MOST_HEAD: usize = 65_536;
 
-// Where more bytes than this wait to be sent, no further request is answered.
-const MOST_PENDING: usize = 4096;
+// Where more bytes than this wait to be sent, no further request is answered: so a read or a write
+// answers one.
+const MOST_PENDING: usize = 0;
 
 // The least room for a read.
 const READ_SIZE: usize = 1024;
@@ -36,7 +38,9 @@ pub(crate) struct Beginning {
 
 impl Beginning {
     /// By these keys, and within the limits of a relay.
-    pub(crate) fn new(alloc: Global, keys: RandomState) -> Beginning {
+    pub(crate) fn new(alloc: Global, keys: RandomState) -> Beginning
+        ensures body { result.config.max_body_len ≡ MOST_REQUEST }
+    {
         let limits = HeadLimits {
             max_head_len: MOST_HEAD,
             ..HeadLimits::default()

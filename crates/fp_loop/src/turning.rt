@@ -1,5 +1,8 @@
 //! The loop of one thread over its connections.
 
+ghost use Rattle.std.specs.Prelude.{◌≡◌, ◌≢◌, ◌+◌, ◌<◌, ◌^◌, ◌⊎◌, [], IsSomeAnd, IsTrue};
+ghost use Rattle.std.specs.Duration.{as_nanos};
+
 use crate::counting::Counting;
 use crate::inbox::{Inbox, Taken};
 use crate::informed::Informed;
@@ -216,7 +219,9 @@ where
     }
 
     // For how long to wait where nothing is ready.
-    fn patience(&self) -> Option<Duration> {
+    fn patience(&self) -> Option<Duration>
+        ensures { self.now.queue.items ≢ [] → IsSomeAnd result (λ d. as_nanos d ≡ 0) }
+    {
         if !self.queue.is_empty() {
             Some(Duration::from_millis(0))
         } else if self.members.is_empty() {
@@ -262,7 +267,8 @@ where
     // Puts a key at this place of the queue, where its connection could go on. Gives how many stand
     // there then.
     fn keep_if(&mut self, goes: bool, kept: usize, key: usize) -> usize
-        ensures { KeepsOn self.old self.new }
+        ensures on { KeepsOn self.old self.new }
+        ensures counted { IsTrue goes → kept + 1 < 2 ^ 64 → result ≡ kept + 1 }
     {
         if !goes {
             return kept;

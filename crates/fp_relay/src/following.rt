@@ -8,7 +8,7 @@ use crate::numbers::Numbers;
 use crate::set::Set;
 use crate::shelf::Shelf;
 use crate::source::{Audience, SourceEnd, follow};
-use crate::uplink::Uplink;
+use crate::uplink::{Ended, Uplink};
 use fp_connections::{Host, probe_peers};
 use fp_fronts::{Growing, Lists};
 use fp_loop::Loops;
@@ -102,26 +102,27 @@ pub fn follow_source<R: Host>(
     uplink: &Uplink,
     last: Hello,
     showing: Showing<R>,
-) {
+) -> Ended {
     let mut showing = showing;
     let mut last = last;
     let mut failures = 0u32;
     for _ in rt.forever() {
         showing.has_heard = false;
         let ended = attend_source(rt, address, uplink, &mut last, &mut showing);
-        if uplink.is_ended(rt) {
-            return;
+        if let Some(ended) = uplink.ended(rt) {
+            return ended;
         }
         if is_well(&ended) && showing.has_heard {
             failures = 0;
         }
         let wait = delay(failures, random(rt));
         tell_end(rt, address, &ended, wait);
-        if uplink.is_ended_within(rt, wait) {
-            return;
+        if let Some(ended) = uplink.ended_within(rt, wait) {
+            return ended;
         }
         failures = failures.saturating_add(1);
     }
+    unreachable!()
 }
 
 // Whether what came was as it should be.

@@ -2,8 +2,7 @@
 
 use crate::events::{Event, tell, tell_failure};
 use crate::words::Options;
-use fp_connections::Host;
-use fp_loop::Listening;
+use fp_connections::{Host, Listener};
 use fp_streams::{FailureCounted, StreamFault};
 use std::alloc::Global;
 use std::io;
@@ -12,7 +11,7 @@ use std::net::SocketAddrV4;
 use std::sync::Arc;
 
 /// A listener, which its thread shares.
-pub type Port = Arc<Listening, Global>;
+pub type Port = Arc<Listener, Global>;
 
 /// The ports of a relay, of which the last two may not be asked for.
 #[derive(Drop)]
@@ -66,11 +65,11 @@ fn bind_one<R: Host>(
 
 // An address that can't be bound is told.
 fn bind<R: Host>(rt: &R, port: &str, address: SocketAddrV4) -> io::Result<Port> {
-    match Listening::bind(rt, address) {
-        Ok(listening) => {
-            let address = listening.bound();
+    match Listener::bind(rt, address) {
+        Ok(listener) => {
+            let address = listener.bound();
             tell(rt, &Event::Bound { port, address });
-            Ok(Arc::new(rt.alloc(), listening)?)
+            Ok(Arc::new(rt.alloc(), listener)?)
         }
         Err(reason) => {
             tell_failure(rt, &Event::NotBound { port, address }, &reason);

@@ -1,5 +1,8 @@
 //! A relay over sockets, from its start to its end.
 
+ghost use Rattle.std.specs.Prelude.{OnOk};
+ghost use Rattle.std.specs.Io.KnownBytes.{IsAtEnd};
+
 use crate::ports::Ports;
 use crate::threads::Relaying;
 use crate::words::Options;
@@ -66,6 +69,8 @@ where
     K: KeptFiles + Send + 'static,
     I: Read,
     O: Write,
+    // `Ok`: the input has ended.
+    ensures { OnOk result (IsAtEnd (I.remaining r.new.inner)) }
 {
     let ports = Ports::bind(rt, &options)?;
     let relaying = Relaying::begin(rt, files, options, &ports)?;
@@ -79,7 +84,9 @@ fn serve<I: Read, O: Write>(
     ports: &Ports,
     r: &mut FailureCounted<I>,
     w: &mut FailureCounted<O>,
-) -> Result<(), RelayFault> {
+) -> Result<(), RelayFault>
+    ensures { OnOk result (IsAtEnd (I.remaining r.new.inner)) }
+{
     ports.say_where(w)?;
     let mut bytes = [0; 512];
     loop {

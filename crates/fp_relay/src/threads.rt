@@ -7,12 +7,12 @@ use crate::restoring::restored;
 use crate::services::{Evaluations, StatusPages};
 use crate::set::Set;
 use crate::shelf::Shelf;
-use crate::uplink::Uplink;
+use crate::uplink::{Ended, Uplink};
 use crate::words::Options;
-use fp_connections::{Counts, Host, Role};
+use fp_connections::{Closed, Counts, Host, Role};
 use fp_fronts::Growing;
 use fp_kept::{KeptFile, KeptFiles};
-use fp_loop::{Door, Informed, Limits, Listening, Loop, Loops};
+use fp_loop::{Door, Informed, Limits, Loop, Loops};
 use fp_relay_replies::Origins;
 use fp_stream::Hello;
 use std::alloc::Global;
@@ -50,7 +50,9 @@ pub struct Relaying {
     shelf: Arc<Shelf, Global>,
     uplink: Arc<Uplink, Global>,
     // Who follows the source.
-    following: Option<JoinHandle<()>>,
+    following: Option<JoinHandle<Ended>>,
+    // Who lets connections in: each ends by what a closed listener alone gives.
+    doors: Vec<JoinHandle<Closed>>,
     // Those that end at once where they are told to.
     threads: Vec<JoinHandle<()>>,
 }
@@ -73,6 +75,7 @@ impl Relaying {
             shelf: Arc::new(alloc, Shelf::new())?,
             uplink: Arc::new(alloc, Uplink::new())?,
             following: None,
+            doors: Vec::new(alloc),
             threads: Vec::new(alloc),
         };
         relaying.begin_loops(rt, Arc::new(alloc, options.origins)?)?;
@@ -90,6 +93,9 @@ impl Relaying {
         self.uplink.end(rt);
         join(rt, self.following);
         self.shelf.close(rt);
+        for door in self.doors {
+            door.join(rt);
+        }
         for thread in self.threads {
             thread.join(rt);
         }
@@ -215,11 +221,11 @@ impl Relaying {
     }
 
     fn attend<R: Host>(&mut self, rt: &R, port: &Port, door: Door<Set>) -> io::Result<()> {
-        Ok(self.threads.push(Listening::start(port, rt, door)?)?)
+        Ok(self.doors.push(door.start(rt, port)?)?)
     }
 }
 
-fn join<R: Host>(rt: &R, thread: Option<JoinHandle<()>>) {
+fn join<R: Host>(rt: &R, thread: Option<JoinHandle<Ended>>) {
     if let Some(thread) = thread {
         thread.join(rt);
     }

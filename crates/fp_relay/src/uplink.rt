@@ -19,6 +19,13 @@ struct Standing {
     is_ended: bool,
 }
 
+/// That it was ended for good: `Uplink::ended` and `Uplink::ended_within` make one, and nothing else
+/// does.
+#[derive(Drop)]
+pub struct Ended {
+    of: (),
+}
+
 /// The connection to the source: none, or one at a time, until it is ended for good.
 #[derive(Drop)]
 pub struct Uplink {
@@ -40,7 +47,7 @@ impl Uplink {
 
     /// A connection to this address, whose reads end where this is ended. A fault where it was.
     pub fn connect<R: Host>(&self, rt: &R, address: SocketAddrV4) -> io::Result<TcpStream> {
-        if self.is_ended(rt) {
+        if self.ended(rt).is_some() {
             return Err(io::Error::from(ErrorKind::ConnectionAborted));
         }
         let (stream, kept) = connect_twice(rt, address)?;
@@ -53,18 +60,18 @@ impl Uplink {
         self.standing.lock(rt).stream = None;
     }
 
-    /// Whether it was ended.
-    pub fn is_ended<R: Wait>(&self, rt: &R) -> bool {
-        self.standing.lock(rt).is_ended
+    /// That it was ended, where it was.
+    pub fn ended<R: Wait>(&self, rt: &R) -> Option<Ended> {
+        self.standing.lock(rt).ended()
     }
 
     /// The same, once it was ended or so much time has passed.
-    pub fn is_ended_within<R: Host>(&self, rt: &R, most: Duration) -> bool {
+    pub fn ended_within<R: Host>(&self, rt: &R, most: Duration) -> Option<Ended> {
         let standing = self.standing.lock(rt);
         let (standing, _waited) = self
             .changed
             .wait_timeout_while(rt, standing, most, |standing| !standing.is_ended);
-        standing.is_ended
+        standing.ended()
     }
 
     /// Ends it: reads and waits end, and nothing is connected any more. A connect that is under way
@@ -86,6 +93,13 @@ impl Standing {
     fn end(&mut self) {
         self.is_ended = true;
         self.cut();
+    }
+
+    fn ended(&self) -> Option<Ended> {
+        if self.is_ended {
+            return Some(Ended { of: () });
+        }
+        None
     }
 
     // Ends what is read of the connection.

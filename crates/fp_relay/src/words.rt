@@ -162,7 +162,7 @@ fn with_more<'w>(alloc: Global, command: Command<'w>) -> Result<Command<'w>, All
     let connections = Arg::new(alloc, "connections")
         .long("connections")
         .value_name("N")
-        .value_parser(value_parser!(u32))
+        .value_parser(value_parser!(u32).range(1..))
         .help("How many connections for evaluations there may be at once");
     command.arg(keep)?.arg(origins)?.arg(connections)
 }

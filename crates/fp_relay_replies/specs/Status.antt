@@ -1,5 +1,5 @@
 -- What an operator is answered.
-use Rattle.std.specs.Prelude.{ℕ, List, [], ◌∷◌, codes, bytes_eq, if◌then◌else◌}
+use Rattle.std.specs.Prelude.{ℕ, List, [], ◌∷◌, Bool, ◌||◌, codes, bytes_eq, if◌then◌else◌}
 use Rattle.fp_relay_replies.specs.Answers.{Answer}
 use Rattle.fp_relay_replies.specs.Metrics.{metrics_of}
 use Rattle.fp_relay_replies.specs.declared.status.Report.{Report}
@@ -20,16 +20,20 @@ numbers_of report = record {
   body = metrics_of report;
 }
 
--- no other method than GET
-abbrev pub not_get : Answer
-not_get = record { status = 405; fields = (codes "allow", codes "GET") ∷ []; body = [] }
+-- a request for what is there; the server leaves out the body of an answer to HEAD
+abbrev pub is_read : List ℕ → Bool
+is_read method = bytes_eq method (codes "GET") || bytes_eq method (codes "HEAD")
 
-abbrev pub get_only : List ℕ → Answer → Answer
-get_only method answer = if bytes_eq method (codes "GET") then answer else not_get
+-- no other method is taken
+abbrev pub not_read : Answer
+not_read = record { status = 405; fields = (codes "allow", codes "GET, HEAD") ∷ []; body = [] }
+
+abbrev pub read_only : List ℕ → Answer → Answer
+read_only method answer = if is_read method then answer else not_read
 
 -- by method and path
 abbrev pub status_answer : Report → List ℕ → List ℕ → Answer
 status_answer report method path =
-    if bytes_eq path (codes "/healthz") then get_only method (health_of report)
-    else (if bytes_eq path (codes "/metrics") then get_only method (numbers_of report)
+    if bytes_eq path (codes "/healthz") then read_only method (health_of report)
+    else (if bytes_eq path (codes "/metrics") then read_only method (numbers_of report)
     else bare 404)

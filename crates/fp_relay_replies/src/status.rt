@@ -1,12 +1,12 @@
 //! What an operator reads of a relay: whether it answers, and its numbers.
 
-ghost use Rattle.std.specs.Prelude.{OnOk};
+ghost use Rattle.std.specs.Prelude.{◌≡◌, OnOk};
 ghost use Rattle.http.specs.Request.{head_of};
 ghost use Rattle.http_server.specs.Response.{IsBlank};
 ghost use Rattle.http_uri.specs.Uri.{uri_path};
 ghost use Rattle.fp_relay_replies.specs.Answers.{IsSent};
-ghost use Rattle.fp_relay_replies.specs.Status.{get_only, health_of, not_get, numbers_of};
-ghost use Rattle.fp_relay_replies.specs.Status.{status_answer};
+ghost use Rattle.fp_relay_replies.specs.Status.{health_of, is_read, not_read, numbers_of};
+ghost use Rattle.fp_relay_replies.specs.Status.{read_only, status_answer};
 
 use crate::cross_origin::add;
 use crate::metrics::metrics_text;
@@ -78,8 +78,8 @@ pub fn answer_status(
     // Status 200, no field and no body.
     requires { IsBlank response.old }
     // `Ok`: `/healthz` is 200 with a set and else 503; `/metrics` is 200 with each number of the
-    // report, its meaning and its kind; 405 with `allow: GET` for another method than `GET` there;
-    // 404 anywhere else.
+    // report, its meaning and its kind; to `HEAD` as to `GET`, and 405 with `allow: GET, HEAD` to
+    // another method there; 404 anywhere else.
     ensures { OnOk result (IsSent (status_answer report.now (head_of request.now).method
         (uri_path (head_of request.now).uri)) response.new) }
 {
@@ -101,10 +101,10 @@ fn show_health(
     response: &mut Response,
 ) -> Result<(), AllocError>
     requires { IsBlank response.old }
-    ensures { OnOk result (IsSent (get_only (head_of request.now).method (health_of report.now))
+    ensures { OnOk result (IsSent (read_only (head_of request.now).method (health_of report.now))
         response.new) }
 {
-    if request.method().as_str() != "GET" {
+    if !is_for_reading(request) {
         return refuse(response);
     }
     if !report.has_set {
@@ -120,10 +120,10 @@ fn show_numbers(
     response: &mut Response,
 ) -> Result<(), AllocError>
     requires { IsBlank response.old }
-    ensures { OnOk result (IsSent (get_only (head_of request.now).method (numbers_of report.now))
+    ensures { OnOk result (IsSent (read_only (head_of request.now).method (numbers_of report.now))
         response.new) }
 {
-    if request.method().as_str() != "GET" {
+    if !is_for_reading(request) {
         return refuse(response);
     }
     let text = metrics_text(alloc, report)?;
@@ -134,11 +134,19 @@ fn show_numbers(
     }
 }
 
+// Whether it asks for what is there. Who sends the response leaves out its body to `HEAD`.
+fn is_for_reading(request: &Request<Bytes>) -> bool
+    ensures { result ≡ is_read (head_of request.now).method }
+{
+    let method = request.method().as_str();
+    method == "GET" || method == "HEAD"
+}
+
 // No other method is taken.
 fn refuse(response: &mut Response) -> Result<(), AllocError>
     requires { IsBlank response.old }
-    ensures { OnOk result (IsSent not_get response.new) }
+    ensures { OnOk result (IsSent not_read response.new) }
 {
     response.status = StatusCode::METHOD_NOT_ALLOWED;
-    add(response, header::ALLOW, "GET")
+    add(response, header::ALLOW, "GET, HEAD")
 }

@@ -6,7 +6,7 @@ use Rattle.std.specs.Io.KnownBytes.{Consumes, IsAtEnd}
 use Rattle.fp_base.proofs.Known.{Consumes-some, IfSome-each}
 use Rattle.fp_session.specs.Asks.{asked_by_input}
 use Rattle.fp_session.specs.Lines.{line_up_to_limit, lines}
-use Rattle.fp_session.specs.Requests.{first_line, first_of, is_left, is_request_line}
+use Rattle.fp_session.specs.Requests.{first_line, first_of, is_left, is_http_line}
 use Rattle.fp_session.specs.Sources.{AskLines}
 use Rattle.fp_session.specs.declared.request.RequestLine.{RequestLine}
 use Rattle.fp_session.specs.declared.request.RequestLine.TheVariants.{Nothing}
@@ -18,7 +18,7 @@ pub record IsUnderWay (first now : Option (List ℕ)) (line : List ℕ) (request
   pub came : List ℕ
   pub one : lines came ≡ came ∷ []
   pub held : line ≡ line_up_to_limit came
-  pub state : (rest : List ℕ) → is_left request rest ≡ is_request_line (came ++ rest)
+  pub state : (rest : List ℕ) → is_left request rest ≡ is_http_line (came ++ rest)
   pub read : (input : List ℕ) → first ≡ Some input → (rest : List ℕ) × (now ≡ Some rest) × (input ≡ came ++ rest)
 
 pub first-none : (first : Option (List ℕ)) (line : List ℕ) → line ≡ [] → IsUnderWay first first line Nothing
@@ -56,7 +56,7 @@ module _ (first now then : Option (List ℕ)) (line : List ℕ) (request : Reque
     came = u.came ++ bytes;
     one = lines-append u.came bytes bytes [] u.one one;
     held = grown u.came u.held;
-    state = λ rest. goes rest ∙ u.state (bytes ++ rest) ∙ ap is_request_line (sym (append_assoc u.came bytes rest));
+    state = λ rest. goes rest ∙ u.state (bytes ++ rest) ∙ ap is_http_line (sym (append_assoc u.came bytes rest));
     read = reads;
   }
 
@@ -71,8 +71,8 @@ module _ (first now then : Option (List ℕ)) (line : List ℕ) (request : Reque
 
     pub first-told : (final : RequestLine) (is : Bool) →
         ((rest : List ℕ) → is_left final rest ≡ is_left request (take at bytes ++ rest)) → is ≡ is_left final [] →
-        IfSome first (λ input. is ≡ is_request_line (first_line input))
-    first-told final is goes told = IfSome-each first (λ input. is ≡ is_request_line (first_line input)) (λ input known.
+        IfSome first (λ input. is ≡ is_http_line (first_line input))
+    first-told final is goes told = IfSome-each first (λ input. is ≡ is_http_line (first_line input)) (λ input known.
         let r = reads input known in let tail = drop (at + 1) bytes ++ r.0 in
         let one : lines (u.came ++ take at bytes) ≡ (u.came ++ take at bytes) ∷ [] =
         lines-append u.came (take at bytes) (take at bytes) [] u.one cut.one in
@@ -84,7 +84,7 @@ module _ (first now then : Option (List ℕ)) (line : List ℕ) (request : Reque
         let all : lines input ≡ ((u.came ++ take at bytes) ++ []) ∷ lines tail = ap lines parts ∙
         lines-append (u.came ++ take at bytes) (10 ∷ tail) [] (lines tail) one refl in
         told ∙ goes [] ∙ u.state (take at bytes ++ []) ∙
-        ap is_request_line (sym (append_assoc u.came (take at bytes) []) ∙ sym (ap first_of all)))
+        ap is_http_line (sym (append_assoc u.came (take at bytes) []) ∙ sym (ap first_of all)))
 
   -- or the end does
   module _ (none : bytes ≡ []) (end : IsAtEnd then) where
@@ -92,10 +92,10 @@ module _ (first now then : Option (List ℕ)) (line : List ℕ) (request : Reque
     last-asks = IfSome-each first (λ input. AskLines (lines_at true line bytes) then (asked_by_input input))
         (λ input is. lines-ended now then bytes read line (asked_by_input input) (asked input is) none end)
 
-    pub last-told : (is : Bool) → is ≡ is_left request [] → IfSome first (λ input. is ≡ is_request_line (first_line input))
-    last-told is told = IfSome-each first (λ input. is ≡ is_request_line (first_line input)) (λ input known.
+    pub last-told : (is : Bool) → is ≡ is_left request [] → IfSome first (λ input. is ≡ is_http_line (first_line input))
+    last-told is told = IfSome-each first (λ input. is ≡ is_http_line (first_line input)) (λ input known.
         let r = reads input known in let over : r.0 ≡ [] = subst IsAtEnd r.1 end in
         let whole : input ≡ u.came =
         r.2 ∙ ap (λ (l : List ℕ). (u.came ++ bytes) ++ l) over ∙ append-nil (u.came ++ bytes) ∙
         ap (λ (l : List ℕ). u.came ++ l) none ∙ append-nil u.came in
-        told ∙ u.state [] ∙ ap is_request_line (append-nil u.came ∙ sym (ap first_of (ap lines whole ∙ u.one))))
+        told ∙ u.state [] ∙ ap is_http_line (append-nil u.came ∙ sym (ap first_of (ap lines whole ∙ u.one))))

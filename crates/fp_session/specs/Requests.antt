@@ -1,6 +1,6 @@
 -- The first line of an HTTP/1 request (RFC 9112, section 3): a token, a space, a target, a space and
--- the version.
-use Rattle.std.specs.Prelude.{◌≡◌, ℕ, List, [], ◌∷◌, Bool, true, false, ◌&&◌, ◌==◌}
+-- the version. Over TLS it is whatever begins a handshake (RFC 8446, section 5.1).
+use Rattle.std.specs.Prelude.{◌≡◌, ℕ, List, [], ◌∷◌, Bool, true, false, ◌&&◌, ◌||◌, ◌==◌}
 use Rattle.std.specs.Prelude.{if◌then◌else◌, codes, drop}
 use Rattle.std.specs.Char.{is_ascii_digit}
 use Rattle.httparse.specs.Grammar.{is_token_byte, is_uri_byte}
@@ -8,7 +8,7 @@ use Rattle.fp_session.specs.Lines.{lines}
 use Rattle.fp_session.specs.declared.request.RequestLine.{RequestLine}
 use Rattle.fp_session.specs.declared.request.RequestLine.TheVariants.{Nothing, Method, MethodEnd}
 use Rattle.fp_session.specs.declared.request.RequestLine.TheVariants.{Target, Version, Whole}
-use Rattle.fp_session.specs.declared.request.RequestLine.TheVariants.{Return, Other}
+use Rattle.fp_session.specs.declared.request.RequestLine.TheVariants.{Return, Handshake, Other}
 
 abbrev pub is_nothing : List ℕ → Bool
 is_nothing [] = true
@@ -48,8 +48,13 @@ abbrev pub is_request_line : List ℕ → Bool
 is_request_line [] = false
 is_request_line (b ∷ bs) = is_token_byte b && is_method_left bs
 
+-- in clear, or the type of a TLS record that shakes hands and what is behind it
+abbrev pub is_http_line : List ℕ → Bool
+is_http_line [] = false
+is_http_line (b ∷ bs) = b == 22 || is_request_line (b ∷ bs)
+
 abbrev pub IsHttpRequest : List ℕ → Type 0
-IsHttpRequest line = is_request_line line ≡ true
+IsHttpRequest line = is_http_line line ≡ true
 
 -- ---- of an input
 
@@ -64,11 +69,12 @@ first_line input = first_of (lines input)
 
 -- whether these bytes make a request line whole that came so far
 abbrev pub is_left : RequestLine → List ℕ → Bool
-is_left Nothing bs = is_request_line bs
+is_left Nothing bs = is_http_line bs
 is_left Method bs = is_method_left bs
 is_left MethodEnd bs = is_target bs
 is_left Target bs = is_target_left bs
 is_left (Version came) bs = is_version (drop came version) bs
 is_left Whole bs = is_line_end bs
 is_left Return bs = is_nothing bs
+is_left Handshake bs = true
 is_left Other bs = false

@@ -4,7 +4,7 @@ ghost use Rattle.std.specs.Prelude.{◌≡◌, ◌≢◌, ◌+◌, ◌<◌, [], 
 ghost use Rattle.std.specs.Prelude.{IfSome, MatchOption, OnOk};
 ghost use Rattle.fp_edit.specs.Flags.{State};
 ghost use Rattle.fp_session.specs.Asks.{asked_by_input};
-ghost use Rattle.fp_session.specs.Requests.{first_line, is_request_line};
+ghost use Rattle.fp_session.specs.Requests.{first_line, is_http_line};
 ghost use Rattle.fp_session.specs.RunPromise.{RunPromise};
 ghost use Rattle.fp_session.specs.Sources.{AskLines, AsksNext, bytes_at_hand};
 ghost use Rattle.fp_session.specs.Streams.{Blames};
@@ -56,8 +56,8 @@ impl InputLines {
         }
     }
 
-    /// Reads as far as the first line goes, and says whether it is an HTTP request's, however it is
-    /// cut. What the lines ask is asked behind it.
+    /// Reads as far as the first line goes, and says whether it is an HTTP request's, also over TLS,
+    /// however it is cut. What the lines ask is asked behind it.
     pub fn begin_with_request<R: Read>(
         &mut self,
         reader: &mut FailureCounted<R>,
@@ -67,7 +67,7 @@ impl InputLines {
         // `Ok`: true exactly where the first line of what was still to be read is an HTTP
         // request's.
         ensures told { IfOk result (λ is_request. IfSome (R.remaining reader.old.inner)
-            (λ input. is_request ≡ is_request_line (first_line input))) }
+            (λ input. is_request ≡ is_http_line (first_line input))) }
         // `Ok`: from here on it asks what the lines of all of that ask, the first one too.
         ensures asks { OnOk result (IfSome (R.remaining reader.old.inner) (λ input.
             AskLines self.new (R.remaining reader.new.inner) (asked_by_input input))) }
@@ -122,7 +122,7 @@ fn read_first<R: Read>(
     requires none { line.old ≡ [] }
     requires empty { chunk.old ≡ [] }
     ensures told { IfOk result (λ first. IfSome (R.remaining reader.old.inner)
-        (λ input. first.is_request ≡ is_request_line (first_line input))) }
+        (λ input. first.is_request ≡ is_http_line (first_line input))) }
     ensures asks { IfOk result (λ first. IfSome (R.remaining reader.old.inner) (λ input. AskLines
         (record { line = line.new; left = chunk.new; ended = first.is_ended })
         (R.remaining reader.new.inner) (asked_by_input input))) }

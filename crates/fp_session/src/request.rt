@@ -1,7 +1,8 @@
-//! The request line of HTTP/1, by which a connection shows that it isn't an editor's.
+//! The request line of HTTP/1, or the beginning of a TLS handshake, by which a connection shows that
+//! it isn't an editor's.
 
 ghost use Rattle.std.specs.Prelude.{◌≡◌, ◌∷◌, ◌++◌, [], List, ℕ};
-ghost use Rattle.fp_session.specs.Requests.{is_left, is_request_line, is_version};
+ghost use Rattle.fp_session.specs.Requests.{is_http_line, is_left, is_request_line, is_version};
 ghost use Rattle.fp_session.specs.declared.request.RequestLine.TheVariants.{Version, Method, Target};
 
 use httparse::{is_method_token, is_uri_token};
@@ -9,7 +10,11 @@ use httparse::{is_method_token, is_uri_token};
 /// What stands in front of the last digit of the version.
 pub const VERSION: [u8; 7] = *b"HTTP/1.";
 
-/// How far a line is the request line of HTTP/1: what came of it last.
+// With what a TLS client begins: the type of a record that shakes hands.
+const HANDSHAKE: u8 = 22;
+
+/// How far a line is the request line of HTTP/1: what came of it last. Over TLS each line is one that
+/// begins a handshake.
 #[derive(Debug, Drop, Clone, Copy, PartialEq, Eq)]
 pub enum RequestLine {
     /// Nothing yet.
@@ -26,6 +31,8 @@ pub enum RequestLine {
     Whole,
     /// All of it, and the carriage return in front of the newline.
     Return,
+    /// What begins a TLS handshake, and whatever came behind it.
+    Handshake,
     /// What no request line has.
     Other,
 }
@@ -52,7 +59,7 @@ impl RequestLine {
         ensures { result ≡ is_left self [] }
     {
         match self {
-            RequestLine::Whole | RequestLine::Return => true,
+            RequestLine::Whole | RequestLine::Return | RequestLine::Handshake => true,
             RequestLine::Nothing | RequestLine::Method | RequestLine::MethodEnd => false,
             RequestLine::Target | RequestLine::Version(_) | RequestLine::Other => false,
         }
@@ -63,14 +70,25 @@ impl RequestLine {
         ensures { (rest : List ℕ) → is_left result rest ≡ is_left self (byte ∷ rest) }
     {
         match self {
-            RequestLine::Nothing => method_with(byte),
+            RequestLine::Nothing => first_with(byte),
             RequestLine::Method => behind_method(byte),
             RequestLine::MethodEnd => target_with(byte),
             RequestLine::Target => behind_target(byte),
             RequestLine::Version(came) => version_with(came, byte),
             RequestLine::Whole => end_with(byte),
+            RequestLine::Handshake => RequestLine::Handshake,
             RequestLine::Return | RequestLine::Other => RequestLine::Other,
         }
+    }
+}
+
+fn first_with(byte: u8) -> RequestLine
+    ensures { (rest : List ℕ) → is_left result rest ≡ is_http_line (byte ∷ rest) }
+{
+    if byte == HANDSHAKE {
+        RequestLine::Handshake
+    } else {
+        method_with(byte)
     }
 }
 

@@ -10,5 +10,5 @@ returns-clause-talks g c =
     subst
     (λ k. Talks g.S.Service.answers (config_of c.args.self.now) c.args.service.now.service
     c.hear.new.service.service (history_of c.args.self.now) (history k))
-    (sym (c.wait.ensures ∙ (c.finish_if.ensures ∙ c.begin.ensures)))
+    (sym (c.wait.ensures ∙ (c.finish_if.ensures ∙ c.begin.ensures.connection)))
     (hears_talks g.S.Service.answers _ _ _ _ _ _ _ c.hear.ensures.heard)
