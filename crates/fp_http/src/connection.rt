@@ -1,7 +1,7 @@
 //! One connection, served to its end.
 
+use crate::blocking::Note;
 use crate::evaluator::Evaluator;
-use crate::fault::NoReply;
 use crate::moment::Moment;
 use crate::service::Answers;
 use futures::executor::block_on;
@@ -9,6 +9,8 @@ use hyper::server::conn::http1;
 use std::alloc::AllocGlobal;
 use std::cell::RefCell;
 use std::hash::RandomState;
+use std::io;
+use std::io::ErrorKind;
 use std::random::RandomSource;
 use std::rc::Rc;
 use std::sync::Wait;
@@ -18,13 +20,15 @@ use tokio::io::{AsyncRead, AsyncWrite};
 /// back where there was memory to begin. It is safe and total but for the peer's silence, and asks
 /// `hyper` for what that asks of a service.
 ///
-/// `now` is asked for the moment of each request as it comes.
+/// `now` is asked for the moment of each request as it comes. `note` says where memory was wanting
+/// for a reply, which closes the connection.
 pub fn serve_ofrep<R, I, E, N>(
     rt: &R,
     connection: I,
     evaluator: E,
     now: N,
-) -> anyhow::Result<Option<E>>
+    note: Note,
+) -> io::Result<Option<E>>
 where
     R: Wait + RandomSource + AllocGlobal,
     I: AsyncRead + AsyncWrite,
@@ -41,8 +45,11 @@ where
         alloc,
         evaluator: shared.clone()?,
         now,
+        note,
     };
     let _ended = block_on(rt, http.serve_connection(connection, service))?;
-    let mut held = shared.try_borrow_mut().map_err(|_| NoReply)?;
-    Ok(held.take())
+    match shared.try_borrow_mut() {
+        Ok(mut held) => Ok(held.take()),
+        Err(_) => Err(io::Error::from(ErrorKind::Other)),
+    }
 }

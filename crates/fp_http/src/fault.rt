@@ -3,14 +3,21 @@
 use std::error::Error;
 use std::fmt;
 
-/// The connection is closed without a reply: the body broke off, the view is
-/// closed, or memory is wanting.
-#[derive(Debug, Drop, Clone, Copy)]
-pub struct NoReply;
+/// Why a connection is closed without a reply.
+#[derive(Debug, Drop, Clone, Copy, PartialEq, Eq)]
+pub enum NoReply {
+    /// The body broke off.
+    BodyBroke,
+    /// Memory was wanting, or the view is closed.
+    Memory,
+}
 
 impl fmt::Display for NoReply {
     fn fmt<W: fmt::Write>(&self, f: &mut fmt::Formatter<W>) -> fmt::Result {
-        f.write_str("no reply")
+        f.write_str(match self {
+            NoReply::BodyBroke => "the body broke off",
+            NoReply::Memory => "out of memory",
+        })
     }
 }
 

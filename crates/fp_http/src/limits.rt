@@ -45,6 +45,8 @@ pub enum Stop {
     SlowRequest,
     /// Nothing of a reply was taken, for too long.
     SlowReply,
+    /// Memory was wanting for a reply.
+    Memory,
     /// The stream failed.
     Fault(ErrorKind),
 }
@@ -55,6 +57,7 @@ impl fmt::Display for Stop {
             Stop::Idle => f.write_str("idle"),
             Stop::SlowRequest => f.write_str("slow request"),
             Stop::SlowReply => f.write_str("slow reply"),
+            Stop::Memory => f.write_str("out of memory"),
             Stop::Fault(kind) => write!(f, "{kind}"),
         }
     }

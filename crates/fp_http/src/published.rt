@@ -75,12 +75,12 @@ impl Keeping {
         ensures same { self.new ≡ self.old }
     {
         let Some(view) = self.reader.view() else {
-            return Err(NoReply);
+            return Err(NoReply::Memory);
         };
         let kept = &mut self.kept;
         match answer_keeping(alloc, &view, method, target, if_none_match, body, now, kept) {
             Ok(reply) => Ok(reply),
-            Err(_) => Err(NoReply),
+            Err(_) => Err(NoReply::Memory),
         }
     }
 }
@@ -116,7 +116,7 @@ impl Evaluator for Keeping {
         ensures rested { self.new.lent ≡ None }
     {
         if self.reader.enter().is_err() {
-            return Err(NoReply);
+            return Err(NoReply::Memory);
         }
         let reply = self.reply(alloc, method, target, if_none_match, body, now);
         self.reader.rest();

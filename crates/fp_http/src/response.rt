@@ -26,10 +26,10 @@ fn set(
 ) -> Result<(), NoReply>
     ensures { OnOk result (fields.new ≡ insert fields.old name (plain_value value.now)) }
 {
-    let value = HeaderValue::from_bytes(alloc, value).map_err(|_| NoReply)?;
+    let value = HeaderValue::from_bytes(alloc, value).map_err(|_| NoReply::Memory)?;
     match fields.insert(name, value) {
         Ok(_) => Ok(()),
-        Err(_) => Err(NoReply),
+        Err(_) => Err(NoReply::Memory),
     }
 }
 
@@ -56,14 +56,14 @@ fn set_kind(
 fn revision_name(alloc: Global) -> Result<HeaderName, NoReply>
     ensures { IfOk result (λ name. name ≡ codes "flag-revision") }
 {
-    HeaderName::from_bytes(alloc, b"flag-revision").map_err(|_| NoReply)
+    HeaderName::from_bytes(alloc, b"flag-revision").map_err(|_| NoReply::Memory)
 }
 
 // The number in decimal.
 fn text_of(alloc: Global, number: u64) -> Result<String, NoReply>
     ensures { IfOk result (λ text. string_bytes text ≡ decimal number) }
 {
-    format!(in alloc; "{number}").map_err(|_| NoReply)
+    format!(in alloc; "{number}").map_err(|_| NoReply::Memory)
 }
 
 // Sets the revision of the flags.
@@ -109,7 +109,7 @@ pub fn response_of(alloc: Global, reply: Reply) -> Result<Response<Full<Bytes>>,
         headers,
         body,
     } = reply;
-    let body = Bytes::from_vec(body).map_err(|_| NoReply)?;
+    let body = Bytes::from_vec(body).map_err(|_| NoReply::Memory)?;
     let mut parts = Parts::new(alloc);
     parts.status = status;
     set_kind(alloc, &mut parts.headers, &headers)?;

@@ -8,9 +8,11 @@ ghost use Rattle.fp_http.specs.Asking.{IsAsked};
 ghost use Rattle.fp_http.specs.Answering.{Answers as IsAnswer, MayReply, WasGathered};
 
 use crate::asked::Asked;
+use crate::blocking::Note;
 use crate::evaluator::Evaluator;
 use crate::fault::NoReply;
 use crate::gathering::Gathering;
+use crate::limits::Stop;
 use crate::moment::Moment;
 use crate::response::response_of;
 use bytes::Bytes;
@@ -34,6 +36,7 @@ pub struct Answers<E: Drop, N: Drop> {
     pub alloc: Global,
     pub evaluator: Shared<E>,
     pub now: N,
+    pub note: Note,
 }
 
 /// The reply to one request, once its body came. What memory was wanting for is `None`.
@@ -44,6 +47,7 @@ pub struct Answering<C: Drop, E: Drop> {
     body: C,
     evaluator: Option<Shared<E>>,
     moment: Moment,
+    note: Option<Note>,
 }
 
 impl<I: Drop, E: Evaluator, N: Fn() -> Moment + Drop> Service<Request<Incoming<I>>>
@@ -68,6 +72,7 @@ impl<I: Drop, E: Evaluator, N: Fn() -> Moment + Drop> Service<Request<Incoming<I
             body: Gathering::new(self.alloc, Limited::new(request.into_body(), LONGEST_BODY)),
             evaluator: self.evaluator.clone().ok(),
             moment,
+            note: self.note.clone().ok(),
         }
     }
 }
@@ -94,13 +99,17 @@ where
             Poll::Pending => return Poll::Pending,
             Poll::Ready(gathered) => gathered,
         };
-        Poll::Ready(answered(
+        let answered = answered(
             self.alloc,
             &self.asked,
             gathered,
             &self.evaluator,
             &self.moment,
-        ))
+        );
+        if let (Err(NoReply::Memory), Some(note)) = (&answered, &self.note) {
+            note.set(Some(Stop::Memory));
+        }
+        Poll::Ready(answered)
     }
 }
 
@@ -113,7 +122,7 @@ fn whole_body(
     match gathered {
         Ok(whole) => Ok(Some(whole)),
         Err(LimitedError::LengthLimit) => Ok(None),
-        Err(LimitedError::Body(_cause)) => Err(NoReply),
+        Err(LimitedError::Body(_cause)) => Err(NoReply::BodyBroke),
     }
 }
 
@@ -131,7 +140,7 @@ fn answered<E: Evaluator>(
 {
     let body = whole_body(gathered)?;
     let (Some(asked), Some(evaluator)) = (asked, evaluator) else {
-        return Err(NoReply);
+        return Err(NoReply::Memory);
     };
     let body = match &body {
         Some(whole) => Body::Whole(whole.as_slice()),
@@ -152,8 +161,8 @@ fn reply_to<E: Evaluator>(
     ensures { IfOk result (λ reply.
         MayReply E.replies asked.now (body_seen body.entry) moment.now (response_seen reply)) }
 {
-    let mut held = evaluator.try_borrow_mut().map_err(|_| NoReply)?;
-    let there = held.as_mut().ok_or(NoReply)?;
+    let mut held = evaluator.try_borrow_mut().map_err(|_| NoReply::Memory)?;
+    let there = held.as_mut().ok_or(NoReply::Memory)?;
     let tags = asked.if_none_match.as_ref().map(|tags| tags.as_slice());
     let now = moment.seconds();
     there.answer(alloc, &asked.method, asked.target.as_str(), tags, body, now)

@@ -34,6 +34,7 @@ impl From<Stop> for Ended {
             Stop::Idle => Ended::Idle,
             Stop::SlowRequest => Ended::SlowRequest,
             Stop::SlowReply => Ended::SlowReply,
+            Stop::Memory => Ended::Fault(ErrorKind::OutOfMemory),
             Stop::Fault(kind) => Ended::Fault(kind),
         }
     }

@@ -80,11 +80,12 @@ where
     }
 }
 
-// A note of why a connection was stopped, which two hold.
-fn notes(alloc: Global) -> Result<(Note, Note), AllocError> {
-    let note = Rc::new(alloc, Cell::new(None))?;
-    let kept = note.clone()?;
-    Ok((note, kept))
+// A note of why a connection was stopped, once for its stream, once for who answers, once to be read.
+fn notes(alloc: Global) -> Result<(Note, Note, Note), AllocError> {
+    let of_stream = Rc::new(alloc, Cell::new(None))?;
+    let of_answers = of_stream.clone()?;
+    let kept = of_stream.clone()?;
+    Ok((of_stream, of_answers, kept))
 }
 
 fn evaluate<K, R>(rt: &R, limits: TimeLimits, plane: &Plane<K, R>, stream: &TcpStream) -> Ended
@@ -97,16 +98,17 @@ where
         Err(LoanFault::Used) => return Ended::NoPlace,
         Err(LoanFault::Memory) => return Ended::Fault(ErrorKind::OutOfMemory),
     };
-    let Ok((note, kept)) = notes(rt.alloc()) else {
+    let Ok((of_stream, of_answers, kept)) = notes(rt.alloc()) else {
         return Ended::Fault(ErrorKind::OutOfMemory);
     };
     let clock = *rt;
-    let connection = Blocking::new(Noted::new(stream), clock, limits, note);
-    let served = serve_ofrep(rt, connection, evaluator, move || Moment::now(&clock));
+    let connection = Blocking::new(Noted::new(stream), clock, limits, of_stream);
+    let now = move || Moment::now(&clock);
+    let served = serve_ofrep(rt, connection, evaluator, now, of_answers);
     match (kept.get(), served) {
         (Some(stop), _) => stop.into(),
         (None, Ok(_evaluator)) => Ended::ByPeer,
-        (None, Err(_)) => Ended::Fault(ErrorKind::OutOfMemory),
+        (None, Err(reason)) => Ended::Fault(reason.kind()),
     }
 }
 
