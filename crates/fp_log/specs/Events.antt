@@ -6,7 +6,7 @@ use Rattle.fp_log.specs.declared.event.Event.TheVariants.{Opened, Bound, Connect
 use Rattle.fp_log.specs.declared.event.Event.TheVariants.{CompactionBegun, CompactionEnded}
 use Rattle.fp_log.specs.declared.event.Event.TheVariants.{StoreFailed, Stopped, NotOpened}
 use Rattle.fp_log.specs.declared.event.Event.TheVariants.{CallFailed, NotBound, NotConnected}
-use Rattle.fp_log.specs.declared.event.Event.TheVariants.{NotStarted}
+use Rattle.fp_log.specs.declared.event.Event.TheVariants.{NotStarted, MemoryWanting}
 use Rattle.fp_log.specs.declared.event.Cause.{Cause}
 use Rattle.fp_log.specs.declared.event.Cause.TheVariants.{Idle, SlowRequest, SlowReply}
 use Rattle.fp_log.specs.declared.event.Cause.TheVariants.{HttpRequest, NoHello, NoPlace, Fault}
@@ -48,6 +48,7 @@ name_of (CallFailed call source) = codes "call-failed"
 name_of (NotBound port address) = codes "not-bound"
 name_of (NotConnected address) = codes "not-connected"
 name_of (NotStarted thread) = codes "not-started"
+name_of (MemoryWanting of) = codes "memory-wanting"
 
 -- of an opening: how much was opened, how long it took, and where
 abbrev pub opening_text : (path : List ℕ) → (revision flags milliseconds : ℕ) → List ℕ
@@ -73,3 +74,4 @@ text_of (NotBound port address) =
     codes "port=" ++ port_name port ++ codes " address=" ++ socket_v4_text address
 text_of (NotConnected address) = codes "address=" ++ socket_v4_text address
 text_of (NotStarted thread) = codes "thread=" ++ thread.now
+text_of (MemoryWanting of) = codes "of=" ++ of.now

@@ -154,6 +154,10 @@ pub enum Event<'e> {
     NotStarted {
         thread: &'e str,
     },
+    /// Memory is wanting for this, which is tried again until there is some.
+    MemoryWanting {
+        of: &'e str,
+    },
 }
 
 impl Event<'_> {
@@ -175,6 +179,7 @@ impl Event<'_> {
             Event::NotBound { .. } => "not-bound",
             Event::NotConnected { .. } => "not-connected",
             Event::NotStarted { .. } => "not-started",
+            Event::MemoryWanting { .. } => "memory-wanting",
         }
     }
 }
@@ -220,6 +225,7 @@ impl fmt::Display for Event<'_> {
             }
             Event::NotConnected { address } => write!(f, "address={address}"),
             Event::NotStarted { thread } => write!(f, "thread={thread}"),
+            Event::MemoryWanting { of } => write!(f, "of={of}"),
         }
     }
 }

@@ -18,7 +18,7 @@ use crate::gathering::{Gathering, Sealing};
 use crate::hall::{AllSettled, Hall, Refusal};
 use crate::naming::Naming;
 use crate::owned::OwnHalf;
-use crate::pausing::pause;
+use crate::pausing::Retries;
 use crate::plane::Plane;
 use crate::sealing::SealingPlane;
 use crate::telling::Seen;
@@ -201,7 +201,10 @@ where
 }
 
 // Seals what is drawn. Where memory is wanting it is tried again.
-fn seal<D: Disk, R: Wait + Clock>(rt: &R, half: &mut StoreHalf<D>) -> Result<(), UntoldFailure>
+fn seal<D: Disk, R: Wait + Clock + Log>(
+    rt: &R,
+    half: &mut StoreHalf<D>,
+) -> Result<(), UntoldFailure>
     requires drawn { half.old.progress ≡ batch_drawn }
     requires well { half.old.store.failed ≡ false }
     ensures course { Course D.Disk half.old half.new }
@@ -212,10 +215,11 @@ fn seal<D: Disk, R: Wait + Clock>(rt: &R, half: &mut StoreHalf<D>) -> Result<(),
     ensures cause { OnErr result ((D.faults half.old.store.disk < D.faults half.new.store.disk)
         ⊎ LacksRoom D.Disk half.new) }
 {
+    let mut retries = Retries::of("batch");
     for _ in rt.forever() {
         match half.seal() {
             Ok(()) => return Ok(()),
-            Err(CommitFault::Memory) => pause(rt),
+            Err(CommitFault::Memory) => retries.pause(rt),
             Err(CommitFault::StoreFailed) => return Err(UntoldFailure),
         }
     }
@@ -272,7 +276,7 @@ fn compact_on<D: Disk>(half: &mut StoreHalf<D>) -> Result<(), UntoldFailure>
     }
 }
 
-impl<K: Naming, R: Wait + Clock + Drop> Plane<K, R> {
+impl<K: Naming, R: Wait + Clock + Log + Drop> Plane<K, R> {
     // Waits until edits wait, and draws them. `Err` where the plane is to stop and none does: the
     // hall was ended under the same lock, and no batch is drawn any more.
     fn draw<D: Disk>(&self, half: &mut StoreHalf<D>, owes_step: &mut bool) -> Result<(), AllSettled>
@@ -291,6 +295,7 @@ impl<K: Naming, R: Wait + Clock + Drop> Plane<K, R> {
         let shared = &self.shared;
         half.rest();
         let mut hall = shared.hall.lock(&shared.rt);
+        let mut retries = Retries::of("batch");
         for _ in shared.rt.forever() {
             match hall.draw(half) {
                 Ok(Some(_)) => {
@@ -303,7 +308,7 @@ impl<K: Naming, R: Wait + Clock + Drop> Plane<K, R> {
                 Ok(None) => hall = shared.work.wait(&shared.rt, hall),
                 Err(_) => {
                     drop(hall);
-                    pause(&shared.rt);
+                    retries.pause(&shared.rt);
                     hall = shared.hall.lock(&shared.rt);
                 }
             }
@@ -324,6 +329,7 @@ impl<K: Naming, R: Wait + Clock + Drop> Plane<K, R> {
         ensures shown { settled_by half.new ≤ front_revision result.1 }
     {
         let shared = &self.shared;
+        let mut retries = Retries::of("settling");
         for _ in shared.rt.forever() {
             let mut hall = shared.hall.lock(&shared.rt);
             let before = hall.settled_revision();
@@ -343,7 +349,7 @@ impl<K: Naming, R: Wait + Clock + Drop> Plane<K, R> {
                 return (waiting, shown);
             }
             drop(hall);
-            pause(&shared.rt);
+            retries.pause(&shared.rt);
         }
         unreachable!()
     }
@@ -367,8 +373,9 @@ impl<K: Naming, R: Wait + Clock + Drop> Plane<K, R> {
         ensures shown { front_revision told.now ≤ front_revision result }
     {
         let shared = &self.shared;
+        let mut retries = Retries::of("publication");
         for _ in shared.rt.forever() {
-            pause(&shared.rt);
+            retries.pause(&shared.rt);
             let mut hall = shared.hall.lock(&shared.rt);
 
             // Where memory is wanting still, what is shown is behind what was told.
