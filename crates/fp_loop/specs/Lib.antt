@@ -1,5 +1,6 @@
 pub mod Courses
 pub mod Hearing
+pub mod Members
 pub mod Peers
 pub mod Subscribers
 pub mod Talks

@@ -1,6 +1,9 @@
 //! What a loop has a connection as.
 
+ghost use Rattle.std.specs.Prelude.{◌≡◌, IsFalse};
+ghost use Rattle.fp_loop.specs.Members.{CanDoNothing, StaysSo};
 ghost use Rattle.fp_loop.specs.Talks.{Serves};
+ghost use Rattle.fp_loop.specs.declared.turn.Turn.TheVariants.{Waits};
 
 use crate::counting::Counting;
 use crate::peer::Peer;
@@ -52,7 +55,8 @@ impl<N: News + Drop> Member<N> {
         ends: bool,
         now: u64,
     ) -> Turn
-        ensures { Serves S.answers service.old.service service.new.service }
+        ensures serves { Serves S.answers service.old.service service.new.service }
+        ensures waits { IsFalse ends → result ≡ Waits → CanDoNothing self.new.kind shown.now }
     {
         if ends {
             return self.finish(&mut service.tally, now);
@@ -72,7 +76,9 @@ impl<N: News + Drop> Member<N> {
     }
 
     /// The status with which a request was refused, if one was since the last time.
-    pub(crate) fn take_refusal(&mut self) -> Option<u16> {
+    pub(crate) fn take_refusal(&mut self) -> Option<u16>
+        ensures { StaysSo self.old.kind self.new.kind }
+    {
         match &mut self.kind {
             Kind::Requests(peer) => peer.take_refusal(),
             Kind::Frames(_) => None,

@@ -1,6 +1,6 @@
 //! One connection for requests, as steps that don't wait.
 
-ghost use Rattle.std.specs.Prelude.{◌≡◌, ◌≢◌, ◌↔◌, Some, IfSome, IsTrue};
+ghost use Rattle.std.specs.Prelude.{◌≡◌, ◌≢◌, ◌↔◌, None, Some, IfSome, IsTrue};
 ghost use Rattle.fp_loop.specs.Times.{IsOver, limit_of};
 ghost use Rattle.http_server.specs.History.{IsServed};
 ghost use Rattle.fp_loop.specs.declared.times.Waiting.TheVariants.{Leaving};
@@ -244,7 +244,9 @@ impl Peer {
     }
 
     /// The status with which a request was refused, if one was since the last time.
-    pub(crate) fn take_refusal(&mut self) -> Option<u16> {
+    pub(crate) fn take_refusal(&mut self) -> Option<u16>
+        ensures { self.new ≡ record self.old { refused = None } }
+    {
         self.refused.take()
     }
 

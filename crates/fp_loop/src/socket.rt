@@ -1,6 +1,6 @@
 //! A socket that doesn't wait, with what is known of its readiness.
 
-ghost use Rattle.std.specs.Prelude.{◌++◌, ◌≤◌, length};
+ghost use Rattle.std.specs.Prelude.{◌≡◌, ◌++◌, ◌≤◌, length};
 ghost use Rattle.std.specs.Io.{WritesAtMost};
 
 use mio::net::TcpStream;
@@ -90,7 +90,8 @@ impl Socket {
 
     /// Writes both, one behind the other, by one call. It may stop anywhere.
     pub(crate) fn write_both(&mut self, first: &[u8], second: &[u8]) -> io::Result<usize>
-        ensures { WritesAtMost result (first.now ++ second.now) }
+        ensures writes { WritesAtMost result (first.now ++ second.now) }
+        ensures reads { self.new.may_read ≡ self.old.may_read }
     {
         let texts = [IoSlice::new(first), IoSlice::new(second)];
         match self.stream.write_vectored(&texts) {

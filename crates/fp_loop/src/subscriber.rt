@@ -1,9 +1,9 @@
 //! One subscriber, as steps that don't wait.
 
-ghost use Rattle.std.specs.Prelude.{◌≡◌};
-ghost use Rattle.fp_news.specs.Outgoing.{GoesOnTelling};
-ghost use Rattle.fp_loop.specs.Subscribers.{TellsOn};
-ghost use Rattle.fp_loop.specs.declared.turn.Turn.TheVariants.{Goes};
+ghost use Rattle.std.specs.Prelude.{◌≡◌, [], IsFalse, IsTrue, Some};
+ghost use Rattle.fp_news.specs.Outgoing.{GoesOnTelling, rest_of};
+ghost use Rattle.fp_loop.specs.Subscribers.{CanDoNothing, HasAll, TellsOn};
+ghost use Rattle.fp_loop.specs.declared.turn.Turn.TheVariants.{Goes, Waits};
 
 use crate::heard::{Heard, hello_of};
 use crate::socket::{Socket, is_passing};
@@ -39,9 +39,11 @@ impl<N: News + Drop> Subscriber<N> {
         }
     }
 
-    /// Listens, and sends the newest, until it would wait or its turn is over.
+    /// Listens, and sends the newest, until it would wait or its turn is over. Where these news can
+    /// have no further owner it ends, so that it asks for them anew.
     pub(crate) fn turn(&mut self, shown: &Newest<N>, tally: &mut Tally, now: u64) -> Turn
-        ensures { TellsOn self.old.outgoing self.new.outgoing }
+        ensures tells { TellsOn self.old.outgoing self.new.outgoing }
+        ensures waits { result ≡ Waits → CanDoNothing self.new shown.now }
     {
         let heard = self.listen(now);
         if heard == Turn::Over {
@@ -65,7 +67,8 @@ impl<N: News + Drop> Subscriber<N> {
 
     // Reads its hello. What it says behind that is dropped, and where it ends, so does this.
     fn listen(&mut self, now: u64) -> Turn
-        ensures { TellsOn self.old.outgoing self.new.outgoing }
+        ensures tells { TellsOn self.old.outgoing self.new.outgoing }
+        ensures waits { result ≡ Waits → IsFalse self.new.socket.may_read }
     {
         for _ in 0..ROUNDS {
             if !self.socket.may_read {
@@ -112,11 +115,18 @@ impl<N: News + Drop> Subscriber<N> {
 
     // Sends the newest, for as long as its socket takes it.
     fn tell(&mut self, shown: &Newest<N>, tally: &mut Tally, now: u64) -> Turn
-        ensures { TellsOn self.old.outgoing self.new.outgoing }
+        ensures tells { TellsOn self.old.outgoing self.new.outgoing }
+        ensures waits { result ≡ Waits → IsTrue self.new.socket.may_write
+            → HasAll self.new.outgoing shown.now }
+        ensures reads { self.new.socket.may_read ≡ self.old.socket.may_read }
     {
         for _ in 0..ROUNDS {
-            if !self.socket.may_write || !self.begin(shown, now) {
+            if !self.socket.may_write {
                 return Turn::Waits;
+            }
+            let begun = self.begin(shown, now);
+            if begun != Turn::Goes {
+                return begun;
             }
             if self.send(tally, now) == Turn::Over {
                 return Turn::Over;
@@ -125,27 +135,30 @@ impl<N: News + Drop> Subscriber<N> {
         Turn::Goes
     }
 
-    // Whether a frame is being sent, which begins here where there is one to send.
-    fn begin(&mut self, shown: &Newest<N>, now: u64) -> bool
-        ensures { TellsOn self.old.outgoing self.new.outgoing }
+    // Begins a frame where none is being sent and there is one to send. It waits where there is none.
+    fn begin(&mut self, shown: &Newest<N>, now: u64) -> Turn
+        ensures tells { TellsOn self.old.outgoing self.new.outgoing }
+        ensures waits { result ≡ Waits → HasAll self.new.outgoing shown.now }
+        ensures socket { self.new.socket ≡ self.old.socket }
     {
         let Some(outgoing) = &mut self.outgoing else {
-            return false;
+            return Turn::Waits;
         };
         if outgoing.is_sending() {
-            return true;
+            return Turn::Goes;
         }
-        if !offered(outgoing, shown) {
-            return false;
+        let turn = offered(outgoing, shown);
+        if turn == Turn::Goes {
+            self.wait_for(Waiting::Taker, now);
         }
-        self.wait_for(Waiting::Taker, now);
-        true
+        turn
     }
 
     // Sends once of the frame that is being sent.
     fn send(&mut self, tally: &mut Tally, now: u64) -> Turn
         ensures tells { TellsOn self.old.outgoing self.new.outgoing }
         ensures since { result ≡ Goes → self.new.since ≡ now }
+        ensures reads { self.new.socket.may_read ≡ self.old.socket.may_read }
     {
         let Some(outgoing) = &mut self.outgoing else {
             return Turn::Waits;
@@ -164,6 +177,7 @@ impl<N: News + Drop> Subscriber<N> {
 
     fn wait_for(&mut self, waiting: Waiting, now: u64)
         ensures outgoing { self.new.outgoing ≡ self.old.outgoing }
+        ensures socket { self.new.socket ≡ self.old.socket }
         ensures since { self.new.since ≡ now }
     {
         self.waiting = waiting;
@@ -176,20 +190,24 @@ impl<N: News + Drop> Subscriber<N> {
     }
 }
 
-// Begins the frame of what is shown, if it may begin. Answers whether it did.
-fn offered<N: News + Drop>(outgoing: &mut Outgoing<N>, shown: &Newest<N>) -> bool
-    ensures { GoesOnTelling outgoing.old outgoing.new }
+// Begins the frame of what is shown, where no frame is being sent. It waits where that isn't news to
+// this subscriber, and is over where it can have no further owner.
+fn offered<N: News + Drop>(outgoing: &mut Outgoing<N>, shown: &Newest<N>) -> Turn
+    requires { rest_of outgoing.old ≡ [] }
+    ensures tells { GoesOnTelling outgoing.old outgoing.new }
+    ensures waits { result ≡ Waits → HasAll (Some outgoing.new) shown.now }
 {
     let Some(news) = &shown.news else {
-        return false;
+        return Turn::Waits;
     };
     if !outgoing.takes(news.revision()) {
-        return false;
+        return Turn::Waits;
     }
     let Ok(news) = Arc::try_clone(news) else {
-        return false;
+        return Turn::Over;
     };
-    outgoing.offer(news)
+    outgoing.offer(news);
+    Turn::Goes
 }
 
 // Sends once of the frame that is being sent.
@@ -198,7 +216,8 @@ fn sent_once<N: News + Drop>(
     socket: &mut Socket,
     tally: &mut Tally,
 ) -> Turn
-    ensures { GoesOnTelling outgoing.old outgoing.new }
+    ensures tells { GoesOnTelling outgoing.old outgoing.new }
+    ensures reads { socket.new.may_read ≡ socket.old.may_read }
 {
     let (head, document) = outgoing.rest();
     match socket.write_both(head, document) {

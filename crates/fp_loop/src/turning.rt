@@ -1,10 +1,17 @@
 //! The loop of one thread over its connections.
 
 ghost use Rattle.std.specs.Prelude.{◌≡◌, ◌≢◌, ◌+◌, ◌<◌, ◌^◌, ◌⊎◌, [], IsSomeAnd, IsTrue};
+ghost use Rattle.std.specs.Prelude.{IfSome, IsFalse, None};
+ghost use Rattle.std.specs.Arc.{arc_value};
 ghost use Rattle.std.specs.Duration.{as_nanos};
+ghost use Rattle.fp_stream.specs.declared.hello.Hello.TheVariants.{Has};
+ghost use Rattle.fp_news.specs.Newest.{had, Rises};
+ghost use Rattle.slab.specs.Slab.{get};
+ghost use Rattle.fp_loop.specs.Members.{CanDoNothing};
+ghost use Rattle.fp_loop.specs.declared.turn.Turn.TheVariants.{Waits};
 
 use crate::counting::Counting;
-use crate::inbox::{Inbox, Taken};
+use crate::inbox::{Handed, Inbox, Taken};
 use crate::informed::Informed;
 use crate::member::{Kind, Member};
 use crate::peer::Peer;
@@ -66,7 +73,7 @@ where
     S: Informed<N> + Drop,
     N: News + Drop,
 {
-    ghost use Rattle.fp_loop.specs.Courses.{KeepsOn, RunsOn};
+    ghost use Rattle.fp_loop.specs.Courses.{KeepsOn, RunsOn, shown_by};
 
     /// A loop with no connection and no news yet. Its service answers requests.
     pub fn new<R: Net + RandomSource>(
@@ -168,11 +175,22 @@ where
     fn collect<R: Wait>(&mut self, rt: &R, now: u64)
         ensures { RunsOn S.answers S.informs self.old self.new }
     {
+        let taken = self.inbox.take(rt);
+        self.take_in(taken, now);
+    }
+
+    // Shows the news and begins the connections that were taken, or only stops where that is said.
+    fn take_in(&mut self, taken: Taken<N>, now: u64)
+        ensures on { RunsOn S.answers S.informs self.old self.new }
+        // What it shows then is no older than these news.
+        ensures shows { IsFalse taken.is_stopped
+            → Rises (had (λ n. N.shows (arc_value n.shown)) taken.news) (shown_by self.new) }
+    {
         let Taken {
             streams,
             news,
             is_stopped,
-        } = self.inbox.take(rt);
+        } = taken;
         if is_stopped {
             self.stop(now);
             return;
@@ -279,7 +297,10 @@ where
 
     // Gives one its turn. Answers whether it could go on.
     fn take_turn(&mut self, key: usize, now: u64) -> bool
-        ensures { RunsOn S.answers S.informs self.old self.new }
+        ensures on { RunsOn S.answers S.informs self.old self.new }
+        // Where it couldn't, its connection is gone or can do nothing.
+        ensures waits { self.old.returns ≡ None → IsFalse result → IfSome
+            (get self.new.members key) (λ m. CanDoNothing m.kind self.new.shown) }
     {
         let turn = self.give_turn(key, now);
         if turn != Turn::Over {
@@ -290,7 +311,9 @@ where
     }
 
     fn give_turn(&mut self, key: usize, now: u64) -> Turn
-        ensures { RunsOn S.answers S.informs self.old self.new }
+        ensures on { RunsOn S.answers S.informs self.old self.new }
+        ensures waits { self.old.returns ≡ None → result ≡ Waits → IfSome
+            (get self.new.members key) (λ m. CanDoNothing m.kind self.new.shown) }
     {
         let Some(member) = self.members.get_mut(key) else {
             return Turn::Waits;
@@ -305,7 +328,8 @@ where
 
     // Counts a request that was refused with this status.
     fn count_refusal(&mut self, refusal: Option<u16>)
-        ensures { KeepsOn self.old self.new }
+        ensures on { KeepsOn self.old self.new }
+        ensures members { self.new.members ≡ self.old.members }
     {
         if let Some(status) = refusal {
             self.service.tally.answered(status);
@@ -314,7 +338,8 @@ where
     }
 
     fn remove(&mut self, key: usize)
-        ensures { KeepsOn self.old self.new }
+        ensures on { KeepsOn self.old self.new }
+        ensures gone { get self.new.members key ≡ None }
     {
         if let Some(member) = self.members.try_remove(key) {
             self.counts.left(member.role());
@@ -322,13 +347,12 @@ where
     }
 
     // From now on shows these news, if they are newer.
-    fn show(&mut self, news: Arc<N, Global>)
-        ensures { RunsOn S.answers S.informs self.old self.new }
+    fn show(&mut self, news: Handed<N>)
+        ensures on { RunsOn S.answers S.informs self.old self.new }
+        ensures shows { Rises (Has (N.shows (arc_value news.shown)).revision) (shown_by self.new) }
     {
-        let Ok(told) = Arc::try_clone(&news) else {
-            return;
-        };
-        if !self.shown.take(news) {
+        let Handed { shown, told } = news;
+        if !self.shown.take(shown) {
             return;
         }
         self.service.service.inform(told);

@@ -4,12 +4,12 @@ use Rattle.fp_news.specs.Newest.{had}
 use Rattle.fp_loop.proofs.Courses.{runs_informed, runs_kept, runs_then}
 use Rattle.fp_loop.proofs.turning.Loop.show.Goals as goal
 
-pub returns : goal.returns
-returns g c =
+pub returns-clause-on : goal.returns-clause-on
+returns-clause-on g c =
     let news = c.args.news in
     runs_then g.S.Service.answers g.S.Informed.informs _ _ _
-    (runs_informed g.S.Service.answers g.S.Informed.informs _ _ (arc_value news)
-    (subst (λ n. g.S.Informed.informs c.args.self.now.service.service n c.inform.new.self) c.in-Ok.ensures
+    (runs_informed g.S.Service.answers g.S.Informed.informs _ _ (arc_value news.shown)
+    (subst (λ n. g.S.Informed.informs c.args.self.now.service.service n c.inform.new.self) news.same
     c.inform.ensures)
     (c.take.ensures.taken.0 c.if-not-take.false)
     (ap (had (λ n. g.N.News.shows (arc_value n))) (c.take.ensures.new c.if-not-take.false)))

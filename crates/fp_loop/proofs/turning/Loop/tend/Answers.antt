@@ -4,4 +4,4 @@ use Rattle.fp_loop.proofs.turning.Loop.tend.Goals as goal
 pub returns : goal.returns
 returns g c =
     runs_then g.S.Service.answers g.S.Informed.informs _ _ _ c.look_after.ensures
-    (runs_kept g.S.Service.answers g.S.Informed.informs _ _ c.remove.ensures)
+    (runs_kept g.S.Service.answers g.S.Informed.informs _ _ c.remove.ensures.on)
