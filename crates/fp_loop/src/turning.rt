@@ -384,6 +384,9 @@ where
     fn admit(&mut self, stream: TcpStream, role: Role, now: u64) -> io::Result<()>
         ensures { KeepsOn self.old self.new }
     {
+        // So there is room for a turn of each, and none is lost for want of memory.
+        let room = self.members.len().saturating_add(1);
+        self.queue.reserve(room)?;
         let mut stream = mio::net::TcpStream::from_std(stream);
         let key = self.members.vacant_key();
         let both = Interest::READABLE | Interest::WRITABLE;
