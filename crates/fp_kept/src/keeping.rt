@@ -6,6 +6,7 @@ ghost use Rattle.fp_kept.specs.Kept.{IsCarried};
 
 use crate::kept::{KeptParts, decode};
 use crate::kept_files::KeptFiles;
+use crate::replacing::{Beside, Replaced};
 use fp_stream::Frame;
 use std::alloc::{AllocError, Global};
 use std::io;
@@ -14,7 +15,7 @@ use std::io;
 #[derive(Drop)]
 pub struct KeptFile {
     path: String,
-    beside: String,
+    beside: Beside,
     folder: String,
 }
 
@@ -29,7 +30,7 @@ impl KeptFile {
         };
         Ok(KeptFile {
             path: String::from_str(alloc, path)?,
-            beside: format!(in alloc; "{path}.new")?,
+            beside: Beside::of(alloc, path)?,
             folder: String::from_str(alloc, folder)?,
         })
     }
@@ -52,11 +53,11 @@ impl KeptFile {
     /// Keeps a frame in place of the one before: it is written beside it and synced, and then takes
     /// its place, so that a crash leaves one or the other. Nothing is written where what stands
     /// at either place is no regular file, or at its own neither empty nor the beginning of a frame.
-    pub fn keep<K: KeptFiles>(&self, files: &K, parts: &KeptParts<'_>) -> io::Result<()> {
+    pub fn keep<K: KeptFiles>(&self, files: &K, parts: &KeptParts<'_>) -> io::Result<Replaced> {
         files.may_replace(self.path.as_str())?;
-        files.may_write(self.beside.as_str())?;
-        files.write(self.beside.as_str(), parts)?;
-        files.rename(self.beside.as_str(), self.path.as_str())?;
-        files.sync_folder(self.folder.as_str())
+        files.may_write(self.beside.path())?;
+        let made = files.write(&self.beside, parts)?;
+        let renamed = files.rename(made, self.path.as_str())?;
+        files.sync_folder(renamed, self.folder.as_str())
     }
 }

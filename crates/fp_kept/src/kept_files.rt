@@ -1,6 +1,7 @@
 //! The calls of the system by which a frame is kept.
 
 use crate::kept::KeptParts;
+use crate::replacing::{Beside, Made, Renamed, Replaced};
 use std::alloc::Global;
 use std::fs::{File, Metadata, OpenFile, OpenOptions};
 use std::io;
@@ -31,13 +32,13 @@ pub trait KeptFiles: Drop {
     fn may_replace(&self, path: &str) -> io::Result<()>;
 
     /// Makes a file of these parts, in place of one that there may be, and syncs it.
-    fn write(&self, path: &str, parts: &KeptParts<'_>) -> io::Result<()>;
+    fn write<'b>(&self, beside: &'b Beside, parts: &KeptParts<'_>) -> io::Result<Made<'b>>;
 
-    /// Gives a file the name of another, whose place it takes.
-    fn rename(&self, from: &str, to: &str) -> io::Result<()>;
+    /// Gives such a file the name of another, whose place it takes.
+    fn rename(&self, made: Made<'_>, to: &str) -> io::Result<Renamed>;
 
-    /// Syncs the names in a folder, where that can be asked.
-    fn sync_folder(&self, path: &str) -> io::Result<()>;
+    /// Syncs the names in its folder, where that can be asked.
+    fn sync_folder(&self, renamed: Renamed, path: &str) -> io::Result<Replaced>;
 }
 
 /// The files of the system.
@@ -83,27 +84,24 @@ impl<R: Files<File = File> + Drop> KeptFiles for SystemFiles<R> {
         }
     }
 
-    fn write(&self, path: &str, parts: &KeptParts<'_>) -> io::Result<()> {
+    fn write<'b>(&self, beside: &'b Beside, parts: &KeptParts<'_>) -> io::Result<Made<'b>> {
         let mut file = OpenOptions::new()
             .write(true)
             .create(true)
             .truncate(true)
-            .open(&self.rt, path)?;
+            .open(&self.rt, beside.path())?;
         file.write_all(&parts.head)?;
         file.write_all(parts.document)?;
         file.write_all(&parts.digest)?;
-        file.sync_all()
+        Made::synced(file, beside)
     }
 
-    fn rename(&self, from: &str, to: &str) -> io::Result<()> {
-        self.rt.rename(from, to)
+    fn rename(&self, made: Made<'_>, to: &str) -> io::Result<Renamed> {
+        made.renamed(&self.rt, to)
     }
 
-    fn sync_folder(&self, path: &str) -> io::Result<()> {
-        match File::open(&self.rt, path) {
-            Ok(folder) => folder.sync_all(),
-            Err(_) => Ok(()),
-        }
+    fn sync_folder(&self, renamed: Renamed, path: &str) -> io::Result<Replaced> {
+        renamed.synced_in(&self.rt, path)
     }
 }
 

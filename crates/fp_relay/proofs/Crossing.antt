@@ -15,7 +15,9 @@ use Rattle.fp_relay.specs.contracts.services.Evaluations as evaluations
 use Rattle.fp_relay.specs.contracts.set.Set as set
 use Rattle.fp_relay.specs.contracts.set.Set.TheInside as set_inside
 use Rattle.fp_relay.specs.contracts.shelf.Shelf as shelf
-use Rattle.fp_relay.specs.contracts.shelf.Waiting as waiting
+use Rattle.fp_relay.specs.contracts.waiting.PutDown.TheInside as put_down_inside
+use Rattle.fp_relay.specs.contracts.waiting.PutDown as put_down
+use Rattle.fp_relay.specs.contracts.waiting.Waiting as waiting
 
 pub set_sent : IsSend set.the_row
 set_sent = let T = set_inside.the_type in view_send _ _ _ _ _ (recorded_send _ _ _ T.to_one (struct_send (shape T) (shown_sent, tt)))
@@ -27,6 +29,10 @@ waiting_sent : IsSend waiting.the_row
 waiting_sent = let T = waiting.the_type in
     recorded_send _ _ _ T.to_one (struct_send (shape T)
     (search (sendable, crosses, set_sent, set_shared) depth 10, (search sendable, tt)))
+
+put_down_sent : IsSend put_down.the_row
+put_down_sent = let T = put_down_inside.the_type in
+    view_send _ _ _ _ _ (recorded_send _ _ _ T.to_one (struct_send (shape T) (search (sendable, growing.the_send) depth 5, tt)))
 
 pub shelf_sent : IsSend shelf.the_row
 shelf_sent = let T = shelf.the_type in
@@ -65,7 +71,7 @@ showing_sent R sr = let T = showing.the_type R in
               search (sendable, crosses, shelf_sent, shelf_shared) depth 10,
               (
                 search (sendable, crosses, set_sent, set_shared) depth 10,
-                (search sendable, (search (sendable, growing.the_send) depth 5, tt)),
+                (search sendable, (search (sendable, growing.the_send) depth 5, (put_down_sent, tt))),
               ),
             ),
           ),

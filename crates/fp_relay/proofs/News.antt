@@ -1,7 +1,7 @@
 -- What is shown of snapshots, one after another.
 use Rattle.std.proofs.Common.{◌≡◌, List, [], ◌∷◌, ◌++◌, Bool, true, false, refl, sym, ap, ◌∙◌, append_assoc, append-nil}
 use Rattle.fp_stream.specs.declared.hello.Hello.{Hello}
-use Rattle.fp_stream.specs.declared.hello.Hello.TheVariants.{Has}
+use Rattle.fp_stream.specs.declared.hello.Hello.TheVariants.{Has, Nothing}
 use Rattle.fp_stream.specs.Frames.{Snapshot, AreNews, has_after}
 use Rattle.fp_relay.specs.Following.{AreShort, Shows, is_news, news}
 
@@ -45,3 +45,9 @@ short-of_news has (s ∷ ss) h = (h.0.short, short-of_news (Has s.revision) ss h
 pub short-behind : (a b : List Snapshot) → AreShort (a ++ b) → AreShort b
 short-behind [] b h = h
 short-behind (s ∷ a) b h = short-behind a b h.1
+
+-- what was shown last stays known while more is shown
+pub shows-last : (last now : Hello) (old new of : List Snapshot) → last ≡ has_after Nothing old → Shows last now old new of →
+    now ≡ has_after Nothing new
+shows-last last now old new of h k = k.latest ∙ ap (λ (m : Hello). has_after m (news last of)) h
+    ∙ sym (has_after-append Nothing old (news last of)) ∙ ap (λ (l : List Snapshot). has_after Nothing l) (sym k.shown)

@@ -1,3 +1,4 @@
 pub mod Backoff
 pub mod Following
 pub mod Ends
+pub mod Counting

@@ -1,16 +1,21 @@
 //! The thread that follows the source, until the relay ends.
 
-ghost use Rattle.std.specs.Prelude.{[], ◌∷◌};
+ghost use Rattle.std.specs.Prelude.{◌≡◌, ◌≤◌, ◌++◌, ◌∷◌, [], length, IsSome, OnOk, OnErr};
+ghost use Rattle.std.specs.Arc.{arc_value};
+ghost use Rattle.fp_stream.specs.Frames.{has_after};
+ghost use Rattle.fp_stream.specs.Heads.{longest_body};
+ghost use Rattle.fp_stream.specs.declared.hello.Hello.TheVariants.{Nothing};
 
 use crate::backoff::delay;
 use crate::events::{Event, tell, tell_failure};
 use crate::numbers::Numbers;
-use crate::set::Set;
+use crate::set::{OfSet, Set};
 use crate::shelf::Shelf;
 use crate::source::{Audience, SourceEnd, follow};
 use crate::uplink::{Ended, Uplink};
+use crate::waiting::PutDown;
 use fp_connections::{Host, probe_peers};
-use fp_fronts::{Growing, Lists};
+use fp_fronts::Growing;
 use fp_loop::Loops;
 use fp_news::News;
 use fp_shown::Shown;
@@ -37,22 +42,26 @@ pub struct Showing<R: Drop> {
     pub has_heard: bool,
     /// What was shown so far, in proofs alone.
     pub seen: Growing<Set>,
-}
-
-// A set alone, as what is behind others.
-struct OfSet;
-
-impl Lists<Set, Set> for OfSet {
-    ghost items = { λ set. set ∷ [] };
+    /// What was put on the shelf so far, in proofs alone.
+    pub put: PutDown,
 }
 
 impl<R: Wait + Log + Drop> Showing<R> {
     /// Shows a set to the loops.
-    pub fn show_set(&self, set: &Arc<Set, Global>) -> Result<(), AllocError> {
+    pub fn show_set(&mut self, set: &Arc<Set, Global>) -> Result<(), AllocError>
+        // `Ok`: it was shown behind what was.
+        ensures shown { OnOk result (self.new.seen.log
+            ≡ self.old.seen.log ++ arc_value set.now ∷ []) }
+        // `Err`: what was shown stays.
+        ensures unchanged { OnErr result (self.new.seen.log ≡ self.old.seen.log) }
+        // The shelf stays, and what was put on it.
+        ensures put { (self.new.shelf ≡ self.old.shelf) × (self.new.put ≡ self.old.put) }
+    {
         let (revision, flags) = (set.revision(), set.shown().set().len() as u64);
         self.loops.post_news(&self.rt, set)?;
         self.numbers.show(revision, flags);
         tell(&self.rt, &Event::Shown { revision, flags });
+        self.seen.lengthen::<Set, OfSet>(set);
         Ok(())
     }
 }
@@ -71,7 +80,14 @@ impl<R: Wait + Clock + Log + Drop> Audience for Showing<R> {
         self.has_heard = true;
     }
 
-    fn show(&mut self, shown: Shown) -> Result<(), AllocError> {
+    fn show(&mut self, shown: Shown) -> Result<(), AllocError>
+        requires { length shown.document ≤ longest_body }
+        ensures shown { OnOk result (self.new.seen.log ≡ self.old.seen.log ++ shown ∷ []) }
+        ensures unchanged { OnErr result (self.new.seen.log ≡ self.old.seen.log) }
+        // Where there is a shelf, each set that is shown is put on it.
+        ensures put { OnOk result (IsSome self.old.shelf
+            → self.new.put ≡ self.old.put ++ shown ∷ []) }
+    {
         let bytes = (HEAD + shown.document().len()) as u64;
         let set = Arc::new(self.alloc, Set::of(shown))?;
         let kept = Arc::try_clone(&set)?;
@@ -79,9 +95,8 @@ impl<R: Wait + Clock + Log + Drop> Audience for Showing<R> {
         self.show_set(&set)?;
         self.numbers.take(&self.rt, bytes);
         if let Some(shelf) = &self.shelf {
-            shelf.put(&self.rt, kept);
+            shelf.put(&self.rt, kept, &mut self.put);
         }
-        self.seen.lengthen::<Set, OfSet>(&set);
         self.last = Some(last);
         Ok(())
     }
@@ -102,7 +117,10 @@ pub fn follow_source<R: Host>(
     uplink: &Uplink,
     last: Hello,
     showing: Showing<R>,
-) -> Ended {
+) -> Ended
+    // It goes on from what was shown last.
+    requires { last ≡ has_after Nothing showing.seen.log }
+{
     let mut showing = showing;
     let mut last = last;
     let mut failures = 0u32;
@@ -137,7 +155,11 @@ fn attend_source<R: Host>(
     uplink: &Uplink,
     last: &mut Hello,
     showing: &mut Showing<R>,
-) -> io::Result<SourceEnd> {
+) -> io::Result<SourceEnd>
+    // This is what was shown last, before it and then.
+    requires { last.old ≡ has_after Nothing showing.old.seen.log }
+    ensures { last.new ≡ has_after Nothing showing.new.seen.log }
+{
     let numbers = Arc::try_clone(&showing.numbers)?;
     let stream = uplink.connect(rt, address)?;
     probe_peers(&stream);

@@ -16,11 +16,12 @@ mod shelf;
 mod source;
 mod threads;
 mod uplink;
+mod waiting;
 mod words;
 
 pub use backoff::delay;
 pub use fp_connections::Host;
-pub use fp_kept::{KeptFiles, KeptParts, SystemFiles};
+pub use fp_kept::{Beside, KeptFiles, KeptParts, Made, Renamed, Replaced, SystemFiles};
 pub use fp_relay_replies::Origins;
 pub use running::{RelayFault, relay};
 pub use source::{Audience, SourceEnd, follow};

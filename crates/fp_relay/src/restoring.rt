@@ -1,5 +1,9 @@
 //! What was kept, shown again at a start.
 
+ghost use Rattle.std.specs.Prelude.{◌≡◌, [], IfOk, IfSome, IfNone, OnErr};
+ghost use Rattle.fp_stream.specs.Frames.{has_after};
+ghost use Rattle.fp_stream.specs.declared.hello.Hello.TheVariants.{Nothing, Has};
+
 use crate::events::{Event, tell, tell_failure};
 use crate::following::Showing;
 use crate::set::Set;
@@ -16,8 +20,13 @@ pub fn restored<R: Host, K: KeptFiles>(
     rt: &R,
     files: &K,
     file: &KeptFile,
-    showing: &Showing<R>,
-) -> Hello {
+    showing: &mut Showing<R>,
+) -> Hello
+    // Nothing was shown before.
+    requires { showing.old.seen.log ≡ [] }
+    // It is what was shown last.
+    ensures { result ≡ has_after Nothing showing.new.seen.log }
+{
     match restore(rt, files, file, showing) {
         Ok(Some(revision)) => Hello::Has(revision),
         Ok(None) => {
@@ -38,8 +47,14 @@ fn restore<R: Host, K: KeptFiles>(
     rt: &R,
     files: &K,
     file: &KeptFile,
-    showing: &Showing<R>,
-) -> io::Result<Option<u64>> {
+    showing: &mut Showing<R>,
+) -> io::Result<Option<u64>>
+    requires { showing.old.seen.log ≡ [] }
+    ensures one { IfOk result (λ found. IfSome found
+        (λ revision. Has revision ≡ has_after Nothing showing.new.seen.log)) }
+    ensures none { IfOk result (λ found. IfNone found (showing.new.seen.log ≡ [])) }
+    ensures unchanged { OnErr result (showing.new.seen.log ≡ []) }
+{
     let Some(frame) = file.read(rt.alloc(), files)? else {
         return Ok(None);
     };

@@ -2,15 +2,21 @@
 
 ghost use Rattle.std.specs.Prelude.{◌≡◌, ◌<◌, ◌^◌, ℕ, Some, option_map};
 ghost use Rattle.std.specs.Arc.{arc_value};
-ghost use Rattle.fp_relay_replies.specs.Answers.{Responds};
+ghost use Rattle.http.specs.Request.{head_of};
+ghost use Rattle.http_uri.specs.Uri.{uri_path};
+ghost use Rattle.fp_connections.specs.declared.counts.Counted.{Counted};
+ghost use Rattle.fp_relay_replies.specs.Answers.{IsSent, Responds};
 ghost use Rattle.fp_relay_replies.specs.Asking.{asked_by};
+ghost use Rattle.fp_relay_replies.specs.Status.{status_answer};
+ghost use Rattle.fp_relay_replies.specs.declared.status.Report.{Report};
+ghost use Rattle.fp_relay.specs.Counting.{with_counts};
 
 use crate::numbers::Numbers;
 use crate::set::Set;
 use bytes::Bytes;
-use fp_connections::Counts;
+use fp_connections::{Counted, Counts};
 use fp_loop::Informed;
-use fp_relay_replies::{Origins, answer_status, respond};
+use fp_relay_replies::{Origins, Report, answer_status, respond};
 use http::Request;
 use http_server::{Response, Service};
 use std::alloc::{AllocError, Global};
@@ -108,7 +114,10 @@ impl<R: Clock + Drop> StatusPages<R> {
 }
 
 impl<R: Clock + Drop> Service for StatusPages<R> {
-    ghost answers = { λ _ _ _ _. Unit };
+    // By a report, with what was counted of connections in it.
+    ghost answers = { λ _ request response _. (report : Report) × (counted : Counted)
+        × IsSent (status_answer (with_counts report counted) (head_of request).method
+        (uri_path (head_of request).uri)) response };
 
     fn call(
         &mut self,
@@ -116,11 +125,9 @@ impl<R: Clock + Drop> Service for StatusPages<R> {
         response: &mut Response,
     ) -> Result<(), AllocError> {
         let mut report = self.numbers.report(&self.rt);
-        let counted = self.counts.now();
-        report.connections = counted.requesters.saturating_add(counted.subscribers);
-        report.connections_total = counted.accepted;
-        report.refused_total = counted.refused;
-        answer_status(self.alloc, request, &report, response)
+        add_counts(&mut report, &self.counts.now());
+        answer_status(self.alloc, request, &report, response)?;
+        Ok(())
     }
 }
 
@@ -128,6 +135,15 @@ impl<R: Clock + Drop> Informed<Set> for StatusPages<R> {
     fn inform(&mut self, _news: Arc<Set, Global>)
         ensures { self.new ≡ self.old }
     {}
+}
+
+// Adds what was counted of connections to a report.
+fn add_counts(report: &mut Report, counted: &Counted)
+    ensures { report.new ≡ with_counts report.old counted.now }
+{
+    report.connections = counted.requesters.saturating_add(counted.subscribers);
+    report.connections_total = counted.accepted;
+    report.refused_total = counted.refused;
 }
 
 /// The seconds since 1970, and 0 before it or without a clock.

@@ -1,8 +1,9 @@
 //! What a relay shows, as its loops share it.
 
-ghost use Rattle.std.specs.Prelude.{◌≡◌, ◌≤◌, length};
+ghost use Rattle.std.specs.Prelude.{◌≡◌, ◌≤◌, [], ◌∷◌, length};
 ghost use Rattle.fp_stream.specs.declared.head.TheConstants.{MOST_BODY};
 
+use fp_fronts::Lists;
 use fp_news::News;
 use fp_shown::Shown;
 use std::marker::Model;
@@ -52,4 +53,11 @@ impl News for Set {
     fn document(&self) -> &[u8] {
         self.shown.document()
     }
+}
+
+/// A set alone, as what is behind others.
+pub struct OfSet;
+
+impl Lists<Set, Set> for OfSet {
+    ghost items = { λ set. set ∷ [] };
 }

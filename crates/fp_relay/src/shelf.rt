@@ -1,7 +1,11 @@
 //! The thread that keeps the newest set in a file, beside those that show it.
 
+ghost use Rattle.std.specs.Prelude.{◌≡◌, ◌++◌, ◌∷◌, []};
+ghost use Rattle.std.specs.Arc.{arc_value};
+
 use crate::events::{Event, tell_failure};
 use crate::set::Set;
+use crate::waiting::{PutDown, Waiting};
 use fp_connections::Host;
 use fp_kept::{KeptFile, KeptFiles, parts_of};
 use fp_news::News;
@@ -11,13 +15,6 @@ use std::time::Duration;
 
 // After how many seconds what couldn't be kept is tried again.
 const AGAIN: u64 = 5;
-
-// What waits to be kept.
-#[derive(Drop)]
-struct Waiting {
-    set: Option<Arc<Set, Global>>,
-    is_closed: bool,
-}
 
 /// Where the newest set is put down for the thread that keeps it.
 #[derive(Drop)]
@@ -30,17 +27,17 @@ impl Shelf {
     /// With nothing on it.
     pub fn new() -> Shelf {
         Shelf {
-            waiting: Mutex::new(Waiting {
-                set: None,
-                is_closed: false,
-            }),
+            waiting: Mutex::new(Waiting::new()),
             changed: Condvar::new(),
         }
     }
 
     /// Puts a set down, in place of an older one that wasn't kept yet.
-    pub fn put<R: Wait>(&self, rt: &R, set: Arc<Set, Global>) {
-        self.waiting.lock(rt).set = Some(set);
+    pub fn put<R: Wait>(&self, rt: &R, set: Arc<Set, Global>, put: &mut PutDown)
+        // It is put down behind what was.
+        ensures { put.new ≡ put.old ++ arc_value set ∷ [] }
+    {
+        self.waiting.lock(rt).put(set, put);
         self.changed.notify_all();
     }
 

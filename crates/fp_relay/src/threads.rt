@@ -1,5 +1,9 @@
 //! The threads of a relay: its loops, who lets connections in, who follows the source, who keeps.
 
+ghost use Rattle.std.specs.Prelude.{◌≡◌};
+ghost use Rattle.fp_stream.specs.Frames.{has_after};
+ghost use Rattle.fp_stream.specs.declared.hello.Hello.TheVariants.{Nothing};
+
 use crate::following::{Showing, follow_source};
 use crate::numbers::Numbers;
 use crate::ports::{Port, Ports};
@@ -8,6 +12,7 @@ use crate::services::{Evaluations, StatusPages};
 use crate::set::Set;
 use crate::shelf::Shelf;
 use crate::uplink::{Ended, Uplink};
+use crate::waiting::PutDown;
 use crate::words::Options;
 use fp_connections::{Closed, Counts, Host, Role};
 use fp_fronts::Growing;
@@ -165,17 +170,20 @@ impl Relaying {
             last: None,
             has_heard: false,
             seen: Growing::new().0,
+            put: PutDown::new(),
         };
         let mut last = Hello::Nothing;
         if let Some(path) = keep {
             let file = KeptFile::at(alloc, path)?;
-            last = restored(rt, &files, &file, &showing);
+            last = restored(rt, &files, &file, &mut showing);
             showing.shelf = Some(Arc::try_clone(&self.shelf)?);
             self.begin_keeping(rt, files, file)?;
         }
         let own = *rt;
         let uplink = Arc::try_clone(&self.uplink)?;
-        let follow = move || follow_source(&own, source, &uplink, last, showing);
+        let follow = move ||
+            requires { last ≡ has_after Nothing showing.seen.log }
+        { follow_source(&own, source, &uplink, last, showing) };
         self.following = Some(thread::spawn(rt, follow)?);
         Ok(())
     }
