@@ -56,7 +56,7 @@ impl From<StreamFault> for RelayFault {
 }
 
 /// Relays what the source shows, as the options say, until the input ends: first it says where its
-/// ports are. Its threads end before it returns.
+/// ports are. Its threads end before it returns, unless one of them couldn't begin.
 pub fn relay<R, K, I, O>(
     rt: &R,
     files: K,
