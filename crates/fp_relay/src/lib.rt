@@ -6,7 +6,6 @@ mod connecting;
 mod events;
 mod following;
 mod numbers;
-mod origins;
 mod ports;
 mod restoring;
 mod running;

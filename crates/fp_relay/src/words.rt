@@ -1,10 +1,9 @@
 //! What the program's words ask for.
 
-use crate::origins::is_origin;
 use clap::builder::ValueParser;
 use clap::error::ErrorKind;
 use clap::{Arg, ArgAction, ArgMatches, Command, Error, value_parser};
-use fp_relay_replies::Origins;
+use fp_relay_replies::{Origins, is_origin};
 use std::alloc::{AllocError, Global};
 use std::fmt;
 use std::net::SocketAddrV4;

@@ -4,9 +4,11 @@
 mod cross_origin;
 mod evaluating;
 mod metrics;
+mod origins;
 mod spelling;
 mod status;
 
 pub use cross_origin::{Allowance, Origins};
 pub use evaluating::respond;
+pub use origins::is_origin;
 pub use status::{Answered, Report, answer_status};
