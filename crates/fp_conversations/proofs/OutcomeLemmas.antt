@@ -2,7 +2,7 @@
 use Rattle.std.proofs.Common.{◌≡◌, ℕ, Option, None, Some, Ok, Err, IfSome, IsSomeAnd, Result, refl, sym, subst, inl, inr}
 use Rattle.fp_desk.specs.declared.fault.SubmitFault.{SubmitFault}
 use Rattle.fp_desk.specs.declared.fault.SubmitFault.TheVariants as submit
-use Rattle.fp_edit.specs.Edits.{Proposal, proposal_of}
+use Rattle.fp_edit.specs.Edits.{Proposal, change_in, proposal_of}
 use Rattle.fp_edit.specs.Line as line
 use Rattle.fp_edit.specs.Spelled.{Tells, TellsInSet}
 use Rattle.fp_edit.specs.declared.edit.Edit.{Edit}
@@ -14,13 +14,15 @@ use Rattle.fp_edit.specs.declared.line.LineFault.{LineFault}
 use Rattle.fp_edit.specs.declared.line.LineFault.TheVariants.{TooLong, NotJson, NotObject, BadMember, BadOp, BadKey}
 use Rattle.fp_edit.specs.declared.line.LineFault.TheVariants.{BadIf, BadFlag, BadSet, InSet, Memory}
 use Rattle.fp_group_commit.specs.Tokens.{FrontState, Identity}
+use Rattle.fp_plane.specs.Places.{StandsAt}
 use Rattle.fp_session.specs.Asks.{Ask}
 use Rattle.fp_session.specs.Progress.{AsksFor}
 use Rattle.fp_session.specs.Reply as flags
 use Rattle.fp_session.specs.Reply.{fault_of, fault_in, bad_flag_or_memory, bad_flag_in_or_memory, refusal_of, reply_of_code}
 use Rattle.fp_session.specs.declared.reply.Reply as code
-use Rattle.fp_conversations.specs.Answers.{Answer, reply, IsWithin, answer_to_refusal}
-use Rattle.fp_conversations.specs.Outcomes.{ComesTo, IsAnswerTo, IsOutcomeOf, IsToldBy, IsToldOf, answer_to_line, answer_to_outcome, told_by, told_of}
+use Rattle.fp_conversations.specs.Answers.{Answer, reply, IsWithin, answer_to_refusal, revision_in}
+use Rattle.fp_conversations.specs.Outcomes.{ComesTo, IsAnswerTo, IsMadeBy, IsOutcomeOf, IsToldBy, IsToldOf, answer_to_line, answer_to_outcome}
+use Rattle.fp_conversations.specs.Outcomes.{told_by, told_of}
 use Rattle.fp_conversations.specs.declared.answer.Answered.{Answered}
 use Rattle.fp_conversations.specs.declared.answer.Answered.TheVariants as came
 use Rattle.fp_conversations.specs.declared.answer.Outcome.{Outcome}
@@ -28,33 +30,44 @@ use Rattle.fp_conversations.specs.declared.answer.Outcome.TheVariants.{Kept, Ref
 
 -- an answer to what was asked, with no greater a revision than was told
 abbrev pub Fits : Ask → Option FrontState → Answer → Type 0
-Fits x told a = IsAnswerTo x a × IsWithin told a
+Fits x told a = IsAnswerTo told x a × IsWithin told a
 
 -- ---- what became of an edit
 
-fault-within : (f : EditFault) → IsWithin None (reply (refusal_of f))
-fault-within (edit.Conflict current) = tt
-fault-within (edit.ConflictIn at current) = tt
-fault-within edit.SetTooLarge = tt
-fault-within edit.RevisionsUsed = tt
-fault-within edit.Memory = tt
+-- what an edit that wasn't taken is answered tells no revision
+fault-none : (f : EditFault) → revision_in (reply (refusal_of f)) ≡ None
+fault-none (edit.Conflict current) = refl
+fault-none (edit.ConflictIn at current) = refl
+fault-none edit.SetTooLarge = refl
+fault-none edit.RevisionsUsed = refl
+fault-none edit.Memory = refl
 
-refusal-within : (f : SubmitFault) → IsWithin None (answer_to_refusal f)
-refusal-within submit.Stopped = tt
-refusal-within submit.QueueFull = tt
-refusal-within (submit.Edit f) = fault-within f
-refusal-within submit.Memory = tt
+refusal-none : (f : SubmitFault) → revision_in (answer_to_refusal f) ≡ None
+refusal-none submit.Stopped = refl
+refusal-none submit.QueueFull = refl
+refusal-none (submit.Edit f) = fault-none f
+refusal-none submit.Memory = refl
+
+none-fits : (P : ℕ → Type 0) (r : Option ℕ) → r ≡ None → IfSome r P
+none-fits P None is = tt
+none-fits P (Some n) is = absurd (cc is)
 
 outcome-within : (store : Identity) (o : Outcome) → IsToldBy store o → IsWithin (told_by o) (answer_to_outcome o)
 outcome-within store (Kept ticket told) ours = ours.1
-outcome-within store (Refused refusal) ours = refusal-within refusal.fault
+outcome-within store (Refused refusal) ours = none-fits _ (revision_in (answer_to_refusal refusal.fault)) (refusal-none refusal.fault)
 outcome-within store (Unknown given_up) ours = tt
+
+outcome-made : (store : Identity) (p : Proposal) (o : Outcome) → IsOutcomeOf p o → IsToldBy store o →
+    IsMadeBy p (told_by o) (answer_to_outcome o)
+outcome-made store p (Kept ticket told) own ours = subst (λ e. StandsAt told ticket.revision (change_in e)) own ours.2
+outcome-made store p (Refused refusal) own ours = none-fits _ (revision_in (answer_to_refusal refusal.fault)) (refusal-none refusal.fault)
+outcome-made store p (Unknown given_up) own ours = tt
 
 outcome-fits : (store : Identity) (x : Ask) (p : Proposal) (o : Outcome) → x ≡ Ok p → IsOutcomeOf p o → IsToldBy store o →
     Fits x (told_by o) (answer_to_outcome o)
 outcome-fits store x p o asks own ours =
-    let answers : IsAnswerTo (Ok p) (answer_to_outcome o) = inl (o, own, inl refl) in
-    (subst (λ (y : Ask). IsAnswerTo y (answer_to_outcome o)) (sym asks) answers, outcome-within store o ours)
+    let answers : IsAnswerTo (told_by o) (Ok p) (answer_to_outcome o) = (outcome-made store p o own ours, inl (o, own, inl refl)) in
+    (subst (λ (y : Ask). IsAnswerTo (told_by o) y (answer_to_outcome o)) (sym asks) answers, outcome-within store o ours)
 
 -- ---- a line that is no edit
 
@@ -62,10 +75,10 @@ fault-fits : (x : Ask) (e : LineFault) → Tells e (λ f. x ≡ Err f) → Fits 
 fault-fits x e told = by_fault e told
   where
     stands : (f : line.Fault) → x ≡ Err f → Fits x None (reply (flags.no_edit f))
-    stands f h = (subst (λ (y : Ask). IsAnswerTo y (reply (flags.no_edit f))) (sym h) (inl refl), tt)
+    stands f h = (subst (λ (y : Ask). IsAnswerTo None y (reply (flags.no_edit f))) (sym h) (inl refl), tt)
 
-    wanting : (y : Ask) → IsAnswerTo y (reply flags.out_of_memory)
-    wanting (Ok p) = inr refl
+    wanting : (y : Ask) → IsAnswerTo None y (reply flags.out_of_memory)
+    wanting (Ok p) = (tt, inr refl)
     wanting (Err f) = inr refl
 
     of_flag : (o : Option _) → IsSomeAnd o (λ f. x ≡ Err (line.bad_flag f)) → Fits x None (reply (bad_flag_or_memory o))

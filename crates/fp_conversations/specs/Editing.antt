@@ -1,7 +1,8 @@
 -- How far what an editor asks was answered.
-use Rattle.std.specs.Prelude.{◌≡◌, ◌≤◌, ℕ, List, ◌++◌, Option, IfSome, IsSomeAnd, All}
+use Rattle.std.specs.Prelude.{◌≡◌, ℕ, List, ◌++◌, Option, IfSome, IsSomeAnd, All}
 use Rattle.std.specs.Io.KnownBytes.{Appends}
-use Rattle.fp_group_commit.specs.Tokens.{FrontState, Identity, front_revision}
+use Rattle.fp_group_commit.specs.Tokens.{FrontState, Identity}
+use Rattle.fp_publish.specs.Fronts.{Begins}
 use Rattle.fp_session.specs.Asks.{Ask, asked_by_input}
 use Rattle.fp_session.specs.Requests.{IsHttpRequest, first_line}
 use Rattle.fp_conversations.specs.Answers.{Answer, IsWithin, texts_of}
@@ -9,12 +10,12 @@ use Rattle.fp_conversations.specs.Outcomes.{AreAnswersTo}
 use Rattle.fp_conversations.specs.declared.editor.EditorEnd.{EditorEnd}
 use Rattle.fp_conversations.specs.declared.editor.EditorEnd.TheVariants.{Served, HttpRequest}
 
--- Behind what a writer held stand the answers to what was asked, a line each, and no revision among
--- them is greater than what was told, which is of this store
+-- Behind what a writer held stand the answers to what was asked, a line each. Each revision among them
+-- is one that its edit made in what was told, which is of this store, and so none is greater
 pub record IsServed (store : Identity) (told : Option FrontState) (asked : List Ask)
     (before held : Option (List ℕ)) : Type 0 where
   pub answers : List Answer
-  pub each : AreAnswersTo asked answers
+  pub each : AreAnswersTo told asked answers
   pub written : Appends before held (texts_of answers)
   pub within : All (IsWithin told) answers
   pub ours : IfSome told (λ f. f.store ≡ store)
@@ -34,6 +35,6 @@ Ends store (Served told) input before held = (IsHttpRequest (first_line input) �
     × IsServed store told (asked_by_input input) before held
 Ends store HttpRequest input before held = IsHttpRequest (first_line input) × (held ≡ before)
 
--- what was told is no less than this
-abbrev pub IsNoLess : Option FrontState → Option FrontState → Type 0
-IsNoLess told more = IfSome more (λ f. IsSomeAnd told (λ g. front_revision f ≤ front_revision g))
+-- what was told goes on from this
+abbrev pub GoesOnFrom : Option FrontState → Option FrontState → Type 0
+GoesOnFrom told less = IfSome less (λ f. IsSomeAnd told (Begins f))

@@ -88,7 +88,7 @@ where
     O: Write,
     // Of an edit, what became of that edit; of a line that is no edit, why.
     ensures own { ComesTo asked result.0 }
-    // What was told is of the plane's store, and has at least its ticket's revision.
+    // What was told is of the plane's store, and has its ticket's revision, which its edit made.
     ensures ours { IsToldOf K.store result.0 }
     // `Ok`: the answer to it was written.
     ensures sent { OnOk result.1 (IsSaid (answer_to_line result.0)
@@ -125,8 +125,8 @@ where
     // What became of the edit is of that edit: kept, by its ticket; not taken, by the refusal
     // that a hall made of it; or not known to be kept, by its ticket, which a hall gave up.
     ensures own { IsOutcomeOf (proposal_of edit) result }
-    // Where it is kept, what is told is of the plane's store and has at least its ticket's
-    // revision.
+    // Where it is kept, what is told is of the plane's store and has its ticket's revision, which
+    // its edit made.
     ensures ours { IsToldBy K.store result }
 {
     let ticket = match plane.submit(edit) {

@@ -1,15 +1,15 @@
 //! An editor's connection.
 
-ghost use Rattle.std.specs.Prelude.{◌≡◌, ◌+◌, ◌++◌, ◌∷◌, [], ◌<◌, ◌≤◌, ℕ, List, Option, None};
+ghost use Rattle.std.specs.Prelude.{◌≡◌, ◌+◌, ◌++◌, ◌∷◌, [], ℕ, List, Option, None};
 ghost use Rattle.std.specs.Prelude.{false, IfErr, IfOk, IfSome, IsSomeAnd, OnErr, OnOk, MatchBool};
 ghost use Rattle.std.specs.Result.{result_map_both};
-ghost use Rattle.fp_group_commit.specs.Tokens.{Identity, front_revision};
+ghost use Rattle.fp_publish.specs.Fronts.{Begins};
 ghost use Rattle.fp_session.specs.Asks.{Ask, asked_by_input};
 ghost use Rattle.fp_session.specs.Progress.{AsksFor};
 ghost use Rattle.fp_session.specs.Requests.{IsHttpRequest, first_line};
 ghost use Rattle.fp_streams.specs.Failures.{CountsFailures};
 ghost use Rattle.fp_streams.specs.declared.counted.StreamFault.TheVariants.{Device};
-ghost use Rattle.fp_conversations.specs.Editing.{Ends, IsNoLess, IsServed, IsServedFirst};
+ghost use Rattle.fp_conversations.specs.Editing.{Ends, GoesOnFrom, IsServed, IsServedFirst};
 ghost use Rattle.fp_conversations.specs.declared.editor.EditorEnd.TheVariants.{HttpRequest};
 
 use crate::answer::answer_line;
@@ -53,8 +53,9 @@ where
     I: Read,
     O: Write,
     // `Served`: the first line is no HTTP request's, and there is one line for each line read
-    // that gets one, in order. What comes back is of the plane's store, and no revision that was
-    // written is greater. `HttpRequest`: the first line is one, and nothing was written.
+    // that gets one, in order. What comes back is of the plane's store, and each revision that was
+    // written is the one that its line's edit made there. `HttpRequest`: the first line is one, and
+    // nothing was written.
     ensures served { IfOk result (λ end. IfSome (I.remaining r.old.inner) (λ input.
         Ends K.store end input (O.contents w.old.inner) (O.contents w.new.inner))) }
 
@@ -174,16 +175,16 @@ where
     D: Disk + Drop,
     R: Wait + Clock + Log + Drop,
     O: Write,
+    requires ours { IfSome told.old (λ t. t.store ≡ K.store) }
     ensures answered { OnOk result ((x : Ask) (all : List Ask) (before : Option (List ℕ))
         → AsksFor asked x → IsServed K.store told.old all before (O.contents w.old.inner)
         → IsServed K.store told.new (all ++ x ∷ []) before (O.contents w.new.inner)) }
-    ensures ours { IfSome told.old (λ t. t.store ≡ K.store)
-        → IfSome told.new (λ t. t.store ≡ K.store) }
+    ensures ours { IfSome told.new (λ t. t.store ≡ K.store) }
     ensures fault { IfErr result (λ f. f ≡ Device) }
     ensures counted { CountsFailures w.old.failures w.new.failures result }
 {
     let (answered, sent) = answer_line(plane, alloc, asked, w);
-    keep_greater(told, answered.into_told());
+    keep_greater::<K>(told, answered.into_told());
     sent?;
 
     // What a compaction is owed is no part of its editor's wait.
@@ -192,11 +193,12 @@ where
 }
 
 // Keeps the greater of what was told.
-fn keep_greater(told: &mut Option<Told>, more: Option<Told>)
-    ensures kept { IsNoLess told.new told.old }
-    ensures more { IsNoLess told.new more }
-    ensures ours { (store : Identity) → IfSome told.old (λ t. t.store ≡ store)
-        → IfSome more (λ t. t.store ≡ store) → IfSome told.new (λ t. t.store ≡ store) }
+fn keep_greater<K: Naming>(told: &mut Option<Told>, more: Option<Told>)
+    requires ours { IfSome told.old (λ t. t.store ≡ K.store) }
+    requires more { IfSome more (λ t. t.store ≡ K.store) }
+    ensures kept { GoesOnFrom told.new told.old }
+    ensures more { GoesOnFrom told.new more }
+    ensures ours { IfSome told.new (λ t. t.store ≡ K.store) }
 {
     let Some(more) = more else {
         return;
@@ -208,12 +210,15 @@ fn keep_greater(told: &mut Option<Told>, more: Option<Told>)
 
 // Whether more was told than this.
 fn is_above(told: &Option<Told>, other: &Told) -> bool
-    ensures { MatchBool result
-        (IsSomeAnd told.now (λ f. front_revision other.now < front_revision f))
-        (IfSome told.now (λ f. front_revision f ≤ front_revision other.now)) }
+    requires { IfSome told.now (λ f. f.store ≡ other.now.store) }
+    ensures { MatchBool result (IsSomeAnd told.now (Begins other.now))
+        (IfSome told.now (λ f. Begins f other.now)) }
 {
     match told {
-        Some(told) => other.revision() < told.revision(),
+        Some(told) => {
+            told.part().meets(other.part());
+            other.revision() < told.revision()
+        }
         None => false,
     }
 }

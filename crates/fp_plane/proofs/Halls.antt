@@ -62,7 +62,7 @@ orderly_then store desk_lists store_lists h n b m X (Err e) w drawn none unchang
 
 -- ---- what is shown
 -- a front reaches as far as one that begins it
-begins_reaches : (f g : FrontState) → Begins f g → front_revision f ≤ front_revision g
+pub begins_reaches : (f g : FrontState) → Begins f g → front_revision f ≤ front_revision g
 begins_reaches f g begins =
     let start = ap (λ (s : Identity). s.start.revision) begins.0 in
     let parts = sym (length-append f.edits begins.1.0) ∙ ap length begins.1.1 in omega (arith, start, parts)

@@ -3,6 +3,7 @@ pub mod PlaneCrossing
 pub mod PublishCrossing
 pub mod Spawning
 pub mod StoreCrossing
-mod Halls
+pub mod Halls
+pub mod PlaceLemmas
 mod LyingLemmas
 pub mod Steps

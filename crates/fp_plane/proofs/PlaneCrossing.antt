@@ -49,16 +49,19 @@ module _ (K R : RattleType) (k : naming.Ghosts K.Denot) (sr : IsSend R) where
       view_send _ _ _ _ _ (recorded_send _ _ _ T.to_one (struct_send (shape T) (
         desk_half_sent,
         (
-          own_board_sent R sr,
+          search (sendable, growing.the_send) depth 10,
           (
-            Vec-send _ evaluator_sent,
+            own_board_sent R sr,
             (
-              seats_sent,
+              Vec-send _ evaluator_sent,
               (
-                search sendable,
+                seats_sent,
                 (
                   search sendable,
-                  (search sendable, (search sendable, (heap.the_field_send, (phantom.the_field_send K, tt)))),
+                  (
+                    search sendable,
+                    (search sendable, (search sendable, (heap.the_field_send, (phantom.the_field_send K, tt)))),
+                  ),
                 ),
               ),
             ),

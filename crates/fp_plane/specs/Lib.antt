@@ -1,3 +1,4 @@
+pub mod Places
 pub mod Hall
 pub mod Telling
 pub mod Flushing

@@ -22,8 +22,8 @@ use crate::pausing::Retries;
 use crate::plane::Plane;
 use crate::sealing::SealingPlane;
 use crate::telling::Seen;
+use crate::ticket::PlaneTicket;
 use fp_committer::{CommitFault, StoreHalf};
-use fp_desk::Ticket;
 use fp_disk::Disk;
 use fp_edit::Edit;
 use fp_fronts::Front;
@@ -137,7 +137,10 @@ pub(crate) fn submit_and_flush<K, D, R>(
     gathering: &mut Gathering,
     owes_step: &mut bool,
     edit: Edit,
-) -> (Result<Ticket, (Refusal, Edit)>, Result<(), UntoldFailure>)
+) -> (
+    Result<PlaneTicket<K>, (Refusal, Edit)>,
+    Result<(), UntoldFailure>,
+)
 where
     K: Naming,
     D: Disk,
@@ -434,7 +437,7 @@ impl<K: Naming, R: Wait + Clock + Log + Drop> Plane<K, R> {
         edit: Edit,
         half: &mut StoreHalf<D>,
         owes_step: &mut bool,
-    ) -> (Result<Ticket, (Refusal, Edit)>, bool)
+    ) -> (Result<PlaneTicket<K>, (Refusal, Edit)>, bool)
         requires ours { IsStoreOf K.store K.desk_lists K.store_lists half.old }
         requires none { half.old.progress ≡ nothing_drawn }
         requires paid { owes_step.old ≡ false }

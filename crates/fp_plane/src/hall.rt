@@ -3,7 +3,7 @@
 ghost use Rattle.std.specs.Prelude.{◌≡◌, ◌⊎◌, ◌<◌, ◌≤◌, ◌+◌, [], true};
 ghost use Rattle.std.specs.Prelude.{◌≢◌, length, IfOk, IfErr, IfNone, IfSome, OnOk, OnErr};
 ghost use Rattle.std.specs.Prelude.{MatchOption, MatchResult, All, vec_len, ◌||◌};
-ghost use Rattle.fp_edit.specs.Edits.{proposal_of};
+ghost use Rattle.fp_edit.specs.Edits.{change_in, proposal_of};
 ghost use Rattle.fp_desk.specs.Desk.{IsAccepted, Refuses, log};
 ghost use Rattle.fp_desk.specs.Desk.{settled_front, settled_revision};
 ghost use Rattle.fp_committer.specs.Committer.{Agree, HaveDrawn, HaveSettled};
@@ -14,16 +14,18 @@ ghost use Rattle.fp_publish.specs.declared.board.TheConstants.{MOST_EVALUATORS};
 ghost use Rattle.std.specs.Vec.{vec_capacity};
 ghost use Rattle.fp_plane.specs.Hall.{IsAtRest, IsDeskOf, IsNew, IsNewDesk, IsOver, IsStoreOf};
 ghost use Rattle.fp_plane.specs.Hall.{IsUnanswered, desk_of, settled_by};
+ghost use Rattle.fp_plane.specs.Places.{StandsAt};
 
 mod lending;
 mod tokens;
 
 use crate::naming::Naming;
 use crate::owned::OwnBoard;
+use crate::ticket::{Accepted, PlaneTicket};
 use fp_committer::{DeskHalf, StoreHalf};
-use fp_desk::Ticket;
 use fp_disk::Disk;
 use fp_edit::Edit;
+use fp_fronts::Growing;
 use fp_group_commit::Told;
 use fp_publish::{Evaluator, MOST_EVALUATORS, Seats, Shown};
 use std::alloc::{AllocError, Global};
@@ -40,6 +42,8 @@ pub struct EvaluatorsUsed;
 #[derive(Drop)]
 pub struct Hall<K: Naming, R: Wait + Drop> {
     desk: DeskHalf,
+    // All that the desk accepted. It has no bytes.
+    accepted: Growing<Accepted>,
     board: OwnBoard<R>,
     idle: Vec<Evaluator>,
     seats: Seats,
@@ -53,8 +57,9 @@ pub struct Hall<K: Naming, R: Wait + Drop> {
 
 impl<K: Naming, R: Wait + Drop> Model for Hall<K, R> {
     ghost use Rattle.std.specs.Coded.{codes};
-    ghost use Rattle.std.specs.Prelude.{◌≤◌};
+    ghost use Rattle.std.specs.Prelude.{◌≡◌, ◌≤◌};
     ghost use Rattle.std.specs.Vec.{vec_capacity};
+    ghost use Rattle.fp_desk.specs.Desk.{log};
     ghost use Rattle.fp_edit.specs.Flags.{coded_state};
     ghost use Rattle.fp_group_commit.specs.Changes.{coded_change};
     ghost use Rattle.fp_publish.specs.declared.board.TheConstants.{MOST_EVALUATORS};
@@ -86,7 +91,8 @@ impl<K: Naming, R: Wait + Drop> Model for Hall<K, R> {
       failed = h.has_failed;
       closing = h.is_closing;
       ended = h.has_ended;
-    }) × (MOST_EVALUATORS ≤ vec_capacity h.idle) };
+    }) × (MOST_EVALUATORS ≤ vec_capacity h.idle) × (h.accepted.name ≡ K.accepted)
+        × (h.accepted.log ≡ log h.desk.desk) };
 }
 
 // As many evaluators of the board as it has room for.
@@ -108,11 +114,19 @@ fn evaluators<R: Wait + Drop>(
 
 impl<K: Naming, R: Wait + Drop> Hall<K, R> {
     /// A hall over the desk's half of the committer that it is of. Nothing was accepted yet.
-    pub fn new(rt: R, alloc: Global, desk: DeskHalf) -> Result<Hall<K, R>, AllocError>
+    pub fn new(
+        rt: R,
+        alloc: Global,
+        desk: DeskHalf,
+        accepted: Growing<Accepted>,
+    ) -> Result<Hall<K, R>, AllocError>
         // The half is the desk's of the committer that `K` names.
         requires ours { IsDeskOf K.store K.desk_lists K.store_lists desk }
         // No edit was handed in yet.
         requires fresh { IsNewDesk desk.desk }
+        // The list has the name that `K` gives to what the plane accepts, and is empty.
+        requires named { accepted.name ≡ K.accepted }
+        requires none { accepted.log ≡ [] }
         // `Ok`: nothing was accepted, no seat is taken, and nothing broke off, closed or ended.
         // The set that the store began with is shown.
         ensures new { IfOk result (IsNew K.store) }
@@ -123,6 +137,7 @@ impl<K: Naming, R: Wait + Drop> Hall<K, R> {
         let idle = evaluators(alloc, &mut board)?;
         Ok(Hall {
             desk,
+            accepted,
             board,
             idle,
             seats: Seats::new(),
@@ -138,7 +153,7 @@ impl<K: Naming, R: Wait + Drop> Hall<K, R> {
     // ---- editors
 
     /// Puts an edit behind those that wait, as `Desk::submit` does.
-    pub fn submit(&mut self, edit: Edit) -> Result<Ticket, (Refusal, Edit)>
+    pub fn submit(&mut self, edit: Edit) -> Result<PlaneTicket<K>, (Refusal, Edit)>
         // `Ok`: as of `Desk::submit`: not stopped, admitted by the head, fewer than 1,024 not
         // settled, and it stands behind those that wait.
         ensures accepted { OnOk result (IsAccepted self.old.desk self.new.desk (proposal_of edit)) }
@@ -160,16 +175,19 @@ impl<K: Naming, R: Wait + Drop> Hall<K, R> {
     {
         let shown = Snapshot::of(&edit);
         match self.desk.submit(edit) {
-            Ok(ticket) => Ok(ticket),
+            Ok(ticket) => Ok(PlaneTicket::of(ticket, &shown, &mut self.accepted)),
             Err((fault, edit)) => Err((Refusal { fault, edit: shown }, edit)),
         }
     }
 
     /// What is told of a ticket, once its edit is settled and shown.
-    pub fn answer(&self, ticket: &Ticket) -> Option<(Told, Shown)>
+    pub fn answer(&self, ticket: &PlaneTicket<K>) -> Option<(Told, Shown)>
         // `Some`: what is told is of the plane's store, and has at least the ticket's revision.
         ensures told { IfSome result (λ p.
             (p.0.store ≡ K.store) × (ticket.now.revision ≤ front_revision p.0)) }
+        // `Some`: the ticket's edit is the one that makes its revision, in what is told.
+        ensures place { IfSome result (λ p.
+            StandsAt p.0 ticket.now.revision (change_in ticket.now.edit)) }
         // `Some`: what is shown goes on from what is told.
         ensures shown { IfSome result (λ p. Begins p.0 p.1) }
         // `None` only where the edit isn't settled, or what is settled isn't shown. Else the
@@ -179,13 +197,14 @@ impl<K: Naming, R: Wait + Drop> Hall<K, R> {
             ⊎ (front_revision self.now.shown < settled_revision self.now.desk))
             (λ p. (p.0 ≡ settled_front self.now.desk) × (p.1 ≡ self.now.shown)) }
     {
-        let told = self.desk.desk().ack(ticket)?;
+        ticket.stands_in(&self.accepted);
+        let told = self.desk.desk().ack(ticket.ticket())?;
         let shown = self.board.shown(&told)?;
         Some((told, shown))
     }
 
     /// Gives a ticket up, or hands it back where something may still become of its edit.
-    pub fn give_up(&self, ticket: Ticket) -> Result<GivenUp, Ticket>
+    pub fn give_up(&self, ticket: PlaneTicket<K>) -> Result<GivenUp, PlaneTicket<K>>
         // `Ok`: no edit is settled any more, and the ticket's isn't settled, or what is settled
         // isn't shown.
         ensures given_up { OnOk result (IsOver self.now × IsUnanswered self.now ticket.revision) }
@@ -196,6 +215,7 @@ impl<K: Naming, R: Wait + Drop> Hall<K, R> {
         ensures same { MatchResult result (λ g. g ≡ ticket) (λ t. t ≡ ticket) }
     {
         if self.is_over() && self.answer(&ticket).is_none() {
+            let ticket = ticket.into_ticket();
             Ok(GivenUp { ticket })
         } else {
             Err(ticket)

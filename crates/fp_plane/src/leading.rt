@@ -16,8 +16,8 @@ use crate::hall::{AllSettled, Refusal};
 use crate::naming::Naming;
 use crate::owned::OwnHalf;
 use crate::plane::Plane;
+use crate::ticket::PlaneTicket;
 use fp_committer::StoreHalf;
-use fp_desk::Ticket;
 use fp_disk::Disk;
 use fp_edit::Edit;
 use fp_fronts::{Front, Growing, Lists};
@@ -113,7 +113,11 @@ impl<K: Naming, D: Disk + Drop> Lying<K, D> {
     /// Hands an edit in, and seals it with all that waits, where whoever was told last was alone: behind
     /// the step that is owed. Where sealing broke off, or others are about, it is handed in for the
     /// flusher.
-    pub fn lead<R>(&mut self, plane: &Plane<K, R>, edit: Edit) -> Result<Ticket, (Refusal, Edit)>
+    pub fn lead<R>(
+        &mut self,
+        plane: &Plane<K, R>,
+        edit: Edit,
+    ) -> Result<PlaneTicket<K>, (Refusal, Edit)>
     where
         R: Wait + Clock + Log + Drop,
         ensures refused { IfErr result (λ e. e.0.edit ≡ proposal_of edit) }
@@ -141,7 +145,11 @@ impl<K: Naming, D: Disk + Drop> Lying<K, D> {
 
     // Hands an edit in, and seals it with all that waits. Where the step before it broke sealing off,
     // the hall is over, which refuses it.
-    fn seal<R>(&mut self, plane: &Plane<K, R>, edit: Edit) -> Result<Ticket, (Refusal, Edit)>
+    fn seal<R>(
+        &mut self,
+        plane: &Plane<K, R>,
+        edit: Edit,
+    ) -> Result<PlaneTicket<K>, (Refusal, Edit)>
     where
         R: Wait + Clock + Log + Drop,
         requires paid { self.old.owes_step ≡ false }

@@ -12,6 +12,7 @@ mod pausing;
 mod plane;
 mod sealing;
 mod telling;
+mod ticket;
 
 pub use flushing::{Broken, Flushed, flusher};
 pub use hall::{AllSettled, EvaluatorsUsed, GivenUp, Gone, Hall, Refusal};
@@ -19,3 +20,4 @@ pub use naming::Naming;
 pub use owned::OwnHalf;
 pub use plane::Plane;
 pub use sealing::SealingPlane;
+pub use ticket::{Accepted, PlaneTicket};

@@ -18,6 +18,9 @@ pub trait Naming {
 
     // The list that has the store's half as the plane began with it.
     ghost beginning: { ℕ };
+
+    // The list of all edits that the plane accepts.
+    ghost accepted: { ℕ };
 }
 
 impl Naming for Brand {
@@ -28,4 +31,6 @@ impl Naming for Brand {
     ghost store_lists = { record { all = 0; settled = 0 } };
 
     ghost beginning = { 0 };
+
+    ghost accepted = { 0 };
 }

@@ -6,21 +6,24 @@
 //! who stops the plane, at one condition for all. Where memory is wanting, what is under way is
 //! tried again after a millisecond, without the lock.
 
-ghost use Rattle.std.specs.Prelude.{◌≡◌, ◌≤◌, true, None, IfOk, IfErr, MatchResult};
-ghost use Rattle.fp_edit.specs.Edits.{proposal_of};
+ghost use Rattle.std.specs.Prelude.{◌≡◌, ◌≤◌, [], true, None, IfOk, IfErr, MatchResult};
+ghost use Rattle.fp_edit.specs.Edits.{change_in, proposal_of};
 ghost use Rattle.fp_group_commit.specs.Tokens.{front_revision};
 ghost use Rattle.fp_publish.specs.Fronts.{Begins};
 ghost use Rattle.fp_publish.specs.Seats.{IsNews, had_by};
 ghost use Rattle.fp_stream.specs.declared.hello.Hello.TheVariants.{Has};
 ghost use Rattle.fp_plane.specs.Hall.{IsDeskOf, IsNewDesk};
+ghost use Rattle.fp_plane.specs.Places.{StandsAt};
 
 use crate::bells::Bells;
 use crate::hall::{EvaluatorsUsed, GivenUp, Gone, Hall, Refusal};
 use crate::naming::Naming;
 use crate::pausing::pause;
+use crate::ticket::{Accepted, PlaneTicket};
 use fp_committer::DeskHalf;
 use fp_desk::Ticket;
 use fp_edit::Edit;
+use fp_fronts::Growing;
 use fp_group_commit::Told;
 use fp_publish::{Evaluator, Handed, Seat, SeatsUsed, Shown};
 use fp_stream::Hello;
@@ -63,13 +66,21 @@ pub struct Plane<K: Naming, R: Wait + Drop> {
 impl<K: Naming, R: Wait + Copy + Drop> Plane<K, R> {
     /// A plane over the desk's half of the committer that it is of. Where memory is wanting the
     /// half is lost, and the store's disk is to be opened again.
-    pub fn new(rt: R, alloc: Global, desk: DeskHalf) -> Result<Plane<K, R>, AllocError>
+    pub fn new(
+        rt: R,
+        alloc: Global,
+        desk: DeskHalf,
+        accepted: Growing<Accepted>,
+    ) -> Result<Plane<K, R>, AllocError>
         // The half is the desk's of the committer that `K` names.
         requires ours { IsDeskOf K.store K.desk_lists K.store_lists desk }
         // No edit was handed in yet.
         requires fresh { IsNewDesk desk.desk }
+        // The list has the name that `K` gives to what the plane accepts, and is empty.
+        requires named { accepted.name ≡ K.accepted }
+        requires none { accepted.log ≡ [] }
     {
-        let hall = Hall::new(rt, alloc, desk)?;
+        let hall = Hall::new(rt, alloc, desk, accepted)?;
         let shared = Shared {
             rt,
             hall: Mutex::new(hall),
@@ -97,7 +108,7 @@ impl<K: Naming, R: Wait + Drop> Plane<K, R> {
 
     /// Hands an edit in, behind those that wait, and wakes the flusher. A hall alone makes a
     /// `Refusal`; `wait` tells what becomes of a ticket's edit.
-    pub fn submit(&self, edit: Edit) -> Result<Ticket, (Refusal, Edit)>
+    pub fn submit(&self, edit: Edit) -> Result<PlaneTicket<K>, (Refusal, Edit)>
         // `Err`: the refusal names the edit, with what its editor expected.
         ensures refused { IfErr result (λ e. e.0.edit ≡ proposal_of edit) }
         // `Ok`: the ticket names the plane's store and the edit handed in, with what its editor
@@ -118,12 +129,15 @@ impl<K: Naming, R: Wait + Drop> Plane<K, R> {
     /// Waits until the ticket's edit is settled and shown, and gives the ticket back with what is
     /// told of it; or gives it up, where no edit is settled any more. A hall alone gives one up
     /// (`Hall::give_up`).
-    pub fn wait(&self, ticket: Ticket) -> Result<(Ticket, Told, Shown), GivenUp>
+    pub fn wait(&self, ticket: PlaneTicket<K>) -> Result<(Ticket, Told, Shown), GivenUp>
         // The ticket that comes back, or is given up, is this one.
         ensures same { MatchResult result (λ p. p.0 ≡ ticket) (λ g. g ≡ ticket) }
         // `Ok`: what is told is of the plane's store, and has at least the ticket's revision.
         ensures told { IfOk result (λ p.
             (p.1.store ≡ K.store) × (ticket.revision ≤ front_revision p.1)) }
+        // `Ok`: the ticket's edit is the one that makes its revision, in what is told.
+        ensures place { IfOk result (λ p.
+            StandsAt p.1 ticket.revision (change_in ticket.edit)) }
         // `Ok`: what is shown goes on from what is told.
         ensures shown { IfOk result (λ p. Begins p.1 p.2) }
     {
@@ -133,7 +147,7 @@ impl<K: Naming, R: Wait + Drop> Plane<K, R> {
         let mut hall = shared.hall.lock(&shared.rt);
         for _ in shared.rt.forever() {
             if let Some((told, shown)) = hall.answer(&ticket) {
-                return Ok((ticket, told, shown));
+                return Ok((ticket.into_ticket(), told, shown));
             }
             ticket = match hall.give_up(ticket) {
                 Ok(given_up) => return Err(given_up),

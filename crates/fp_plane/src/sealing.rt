@@ -29,7 +29,7 @@ use crate::naming::Naming;
 use crate::owned::OwnHalf;
 use crate::pausing::pause;
 use crate::plane::Plane;
-use fp_desk::Ticket;
+use crate::ticket::PlaneTicket;
 use fp_disk::Disk;
 use fp_edit::Edit;
 use fp_fronts::{Front, Growing};
@@ -91,7 +91,7 @@ impl<K: Naming, D: Disk + Drop, R: Wait + Drop> SealingPlane<K, D, R> {
 impl<K: Naming, D: Disk + Drop, R: Wait + Clock + Log + Drop> SealingPlane<K, D, R> {
     /// Hands an edit in, as `Plane::submit` does. An editor that is alone seals it too; else the
     /// flusher does, which is woken behind that.
-    pub fn submit(&self, edit: Edit) -> Result<Ticket, (Refusal, Edit)>
+    pub fn submit(&self, edit: Edit) -> Result<PlaneTicket<K>, (Refusal, Edit)>
         // As of `Plane::submit`.
         ensures refused { IfErr result (λ e. e.0.edit ≡ proposal_of edit) }
         // As of `Plane::submit`.

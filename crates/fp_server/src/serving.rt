@@ -23,7 +23,7 @@ use fp_fronts::Growing;
 use fp_group_commit::{Opening, Store};
 use fp_http::TimeLimits;
 use fp_log::{Event, tell, tell_failure};
-use fp_plane::{Flushed, Naming, OwnHalf, Plane, SealingPlane, flusher};
+use fp_plane::{Accepted, Flushed, Naming, OwnHalf, Plane, SealingPlane, flusher};
 use fp_streams::FailureCounted;
 use std::alloc::AllocError;
 use std::io::{Read, Write};
@@ -150,7 +150,8 @@ where
     };
     half.rest();
     let (began, _) = Growing::new();
-    match serve_named::<Brand, D, R, I, O>(rt, desk, half, began, services, r, w) {
+    let (accepted, _) = Growing::new();
+    match serve_named::<Brand, D, R, I, O>(rt, desk, accepted, half, began, services, r, w) {
         Ok(half) => {
             half.rest();
             Ok(half.into_store())
@@ -187,6 +188,7 @@ type Planes<K, D, R> = (SealingPlane<K, D, R>, SealingPlane<K, D, R>);
 fn serve_named<K, D, R, I, O>(
     rt: &R,
     desk: DeskHalf,
+    accepted: Growing<Accepted>,
     half: StoreHalf<D>,
     began: Growing<OwnHalf<D>>,
     services: Services<R>,
@@ -201,6 +203,8 @@ where
     O: Write,
     requires desk { IsDeskOf K.store K.desk_lists K.store_lists desk }
     requires fresh { IsNewDesk desk.desk }
+    requires accepted { accepted.name ≡ K.accepted }
+    requires none { accepted.log ≡ [] }
     requires half { IsStoreOf K.store K.desk_lists K.store_lists half }
     requires rest { IsResting half }
     requires named { began.name ≡ K.beginning }
@@ -218,7 +222,7 @@ where
         (record { reader = r.old; writer = w.old }) (record { reader = r.new; writer = w.new })) }
 {
     still(&half);
-    let (plane, flushed) = match planes::<K, D, R>(rt, desk) {
+    let (plane, flushed) = match planes::<K, D, R>(rt, desk, accepted) {
         Ok(planes) => planes,
         Err(fault) => return Err((fault.into(), half)),
     };
@@ -243,15 +247,21 @@ where
 }
 
 // A plane over the desk's half, and a handle of it for its flusher.
-fn planes<K, D, R>(rt: &R, desk: DeskHalf) -> Result<Planes<K, D, R>, AllocError>
+fn planes<K, D, R>(
+    rt: &R,
+    desk: DeskHalf,
+    accepted: Growing<Accepted>,
+) -> Result<Planes<K, D, R>, AllocError>
 where
     K: Naming,
     D: Disk + Drop,
     R: Host,
     requires desk { IsDeskOf K.store K.desk_lists K.store_lists desk }
     requires fresh { IsNewDesk desk.desk }
+    requires named { accepted.name ≡ K.accepted }
+    requires none { accepted.log ≡ [] }
 {
-    let plane = Plane::new(*rt, rt.alloc(), desk)?;
+    let plane = Plane::new(*rt, rt.alloc(), desk, accepted)?;
     let plane = SealingPlane::new(rt.alloc(), plane)?;
     let flushed = plane.try_copy()?;
     Ok((plane, flushed))

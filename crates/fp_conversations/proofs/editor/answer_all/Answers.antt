@@ -29,7 +29,7 @@ loop-next-2-preserved g c =
     c.in-Some.is c.in-Ok.ensures.next in
     record {
       sent_well = c.in_ok-answer.ensures.counted ∙ inv.sent_well;
-      ours = c.answer.ensures.ours inv.ours;
+      ours = c.answer.ensures.ours;
       way = record {
         asked = u.asked ++ next.0 ∷ [];
         came = came-one g.A.EditSource.asks c.args.source.now c.args.stream.now c.loop-next-2.source c.next.new.self

@@ -7,4 +7,5 @@ ghosts-serve_named g a = record {
   desk_lists = a.desk.half.own;
   store_lists = a.half.half.own;
   beginning = a.began.name;
+  accepted = a.accepted.name;
 }
