@@ -8,9 +8,9 @@ use Rattle.std.specs.Io.KnownBytes.{Appends}
 use Rattle.fp_base.proofs.Known.{Appends-nil, Appends-more}
 use Rattle.fp_edit.specs.Edits.{Change, Proposal, change_in}
 use Rattle.fp_group_commit.specs.Tokens.{FrontState, Identity, front_revision}
-use Rattle.fp_plane.specs.Places.{StandsAt}
-use Rattle.fp_plane.proofs.Halls.{begins_reaches}
-use Rattle.fp_plane.proofs.PlaceLemmas.{stands-on}
+use Rattle.fp_hall.specs.Places.{StandsAt}
+use Rattle.fp_hall.proofs.Halls.{begins_reaches}
+use Rattle.fp_hall.proofs.PlaceLemmas.{stands-on}
 use Rattle.fp_publish.specs.Fronts.{Begins}
 use Rattle.fp_publish.proofs.FrontLemmas.{compared}
 use Rattle.fp_session.specs.Asks.{Ask}

@@ -14,7 +14,7 @@ use Rattle.fp_edit.specs.declared.line.LineFault.{LineFault}
 use Rattle.fp_edit.specs.declared.line.LineFault.TheVariants.{TooLong, NotJson, NotObject, BadMember, BadOp, BadKey}
 use Rattle.fp_edit.specs.declared.line.LineFault.TheVariants.{BadIf, BadFlag, BadSet, InSet, Memory}
 use Rattle.fp_group_commit.specs.Tokens.{FrontState, Identity}
-use Rattle.fp_plane.specs.Places.{StandsAt}
+use Rattle.fp_hall.specs.Places.{StandsAt}
 use Rattle.fp_session.specs.Asks.{Ask}
 use Rattle.fp_session.specs.Progress.{AsksFor}
 use Rattle.fp_session.specs.Reply as flags

@@ -5,7 +5,7 @@ use Rattle.fp_edit.specs.Edits.{Proposal, change_in, proposal_of}
 use Rattle.fp_edit.specs.declared.edit.Edit.{Edit}
 use Rattle.fp_edit.specs.declared.line.LineFault.{LineFault}
 use Rattle.fp_group_commit.specs.Tokens.{FrontState, Identity, front_revision}
-use Rattle.fp_plane.specs.Places.{StandsAt}
+use Rattle.fp_hall.specs.Places.{StandsAt}
 use Rattle.fp_session.specs.Asks.{Ask}
 use Rattle.fp_session.specs.Reply as flags
 use Rattle.fp_session.specs.Reply.{reply_of_code}

@@ -1,9 +1,6 @@
-pub mod Crossing
 pub mod PlaneCrossing
-pub mod PublishCrossing
 pub mod Spawning
 pub mod StoreCrossing
-pub mod Halls
-pub mod PlaceLemmas
+mod HalfLemmas
 mod LyingLemmas
 pub mod Steps

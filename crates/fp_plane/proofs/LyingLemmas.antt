@@ -12,9 +12,9 @@ use Rattle.fp_committer.specs.CourseLaws.{course_still, course_then}
 use Rattle.fp_committer.specs.Halves.{Names}
 use Rattle.fp_committer.specs.StoreHalf.{KeptBy, StoreHalfState}
 use Rattle.fp_group_commit.specs.Tokens.{Identity}
-use Rattle.fp_plane.proofs.Halls.{flushes_badly, flushes_well, ours_on}
+use Rattle.fp_plane.proofs.HalfLemmas.{flushes_badly, flushes_well, ours_on}
 use Rattle.fp_plane.specs.Flushing.{Flushes, IsResting}
-use Rattle.fp_plane.specs.Hall.{IsStoreOf}
+use Rattle.fp_hall.specs.Hall.{IsStoreOf}
 use Rattle.fp_plane.specs.Lying.{IsLeft}
 use Rattle.fp_plane.specs.declared.flushing.Broken.{Broken}
 

@@ -2,37 +2,27 @@
 use denote.RattleType.{RattleType}
 use denote.Param.Send.{IsSend, IsSync, sendable, view_send, recorded_send, recorded_sync, struct_send, struct_sync}
 use denote.Struct.Declared.{shape}
-use Rattle.std.proofs.Crossing.{crosses, Arc-send, Vec-send}
-use Rattle.std.proofs.alloc.Global.TheSendSync as heap
+use Rattle.std.proofs.Crossing.{crosses, Arc-send}
 use Rattle.std.proofs.marker.PhantomData.TheSendSync as phantom
 use Rattle.std.proofs.sync.Condvar.TheSendSync as condvar
 use Rattle.std.proofs.sync.atomic.AtomicUsize.TheSendSync as atomic
 use Rattle.fp_disk.specs.declared.disk.Disk as disk
 use Rattle.fp_fronts.proofs.growing.Growing.TheSendSync as growing
-use Rattle.fp_plane.proofs.Crossing.{desk_half_sent}
+use Rattle.fp_hall.proofs.HallCrossing.{hall_sent}
 use Rattle.fp_plane.proofs.bells.Bells.TheSendSync as bells
 use Rattle.fp_plane.proofs.flushing.Broken.TheSendSync as broken
 use Rattle.fp_plane.proofs.gathering.Gathering.TheSendSync as gathering
-use Rattle.fp_plane.proofs.hall.tokens.AllSettled.TheSendSync as all_settled
-use Rattle.fp_plane.proofs.PublishCrossing.{board_sent, evaluator_sent, seats_sent}
+use Rattle.fp_hall.proofs.hall.tokens.AllSettled.TheSendSync as all_settled
 use Rattle.fp_plane.proofs.StoreCrossing.{store_half_sent}
-use Rattle.fp_plane.specs.contracts.hall.Hall as hall
-use Rattle.fp_plane.specs.contracts.hall.Hall.TheInside as hall_inside
 use Rattle.fp_plane.specs.contracts.leading.Lying as lying
 use Rattle.fp_plane.specs.contracts.leading.Lying.TheInside as lying_inside
-use Rattle.fp_plane.specs.contracts.owned.OwnBoard as own_board
-use Rattle.fp_plane.specs.contracts.owned.OwnBoard.TheInside as own_board_inside
 use Rattle.fp_plane.specs.contracts.owned.OwnHalf as own_half
 use Rattle.fp_plane.specs.contracts.owned.OwnHalf.TheInside as own_half_inside
 use Rattle.fp_plane.specs.contracts.flushing.Flushed as flushed
 use Rattle.fp_plane.specs.contracts.plane.Plane as plane
 use Rattle.fp_plane.specs.contracts.plane.Shared as shared
 use Rattle.fp_plane.specs.contracts.sealing.SealingPlane as sealing_plane
-use Rattle.fp_plane.specs.declared.naming.Naming as naming
-
-own_board_sent : (R : RattleType) → IsSend R → IsSend (own_board.the_row R)
-own_board_sent R sr = let T = own_board_inside.the_type R in
-    view_send _ _ _ _ _ (recorded_send _ _ _ T.to_one (struct_send (shape T) (board_sent, search (sendable, sr) depth 20)))
+use Rattle.fp_hall.specs.declared.naming.Naming as naming
 
 pub own_half_sent : (D : RattleType) (d : disk.Ghosts D.Denot) → IsSend D → IsSend (own_half.the_row D d)
 own_half_sent D d sd = let T = own_half_inside.the_type D d in
@@ -44,37 +34,12 @@ flushed_sent D d sd = let T = flushed.the_type D d in
     (struct_send (shape T) (own_half_sent D d sd, search (sendable, all_settled.the_send, broken.the_send) depth 20))
 
 module _ (K R : RattleType) (k : naming.Ghosts K.Denot) (sr : IsSend R) where
-  hall_sent : IsSend (hall.the_row K R k)
-  hall_sent = let T = hall_inside.the_type K R k in
-      view_send _ _ _ _ _ (recorded_send _ _ _ T.to_one (struct_send (shape T) (
-        desk_half_sent,
-        (
-          search (sendable, growing.the_send) depth 10,
-          (
-            own_board_sent R sr,
-            (
-              Vec-send _ evaluator_sent,
-              (
-                seats_sent,
-                (
-                  search sendable,
-                  (
-                    search sendable,
-                    (search sendable, (search sendable, (heap.the_field_send, (phantom.the_field_send K, tt)))),
-                  ),
-                ),
-              ),
-            ),
-          ),
-        ),
-      )))
-
   shared_sent : IsSend (shared.the_row K R k)
   shared_sent = let T = shared.the_type K R k in
       recorded_send _ _ _ T.to_one (struct_send (shape T) (
         search (sendable, sr) depth 5,
         (
-          search (sendable, crosses, hall_sent) depth 10,
+          search (sendable, crosses, hall_sent K R k sr) depth 10,
           (atomic.the_field_send, (condvar.the_field_send, (bells.the_field_send, (condvar.the_field_send, tt)))),
         ),
       ))
@@ -84,7 +49,7 @@ module _ (K R : RattleType) (k : naming.Ghosts K.Denot) (sr : IsSend R) where
       recorded_sync _ _ _ T.to_one (struct_sync (shape T) (
         search (sendable, yr) depth 5,
         (
-          search (sendable, crosses, hall_sent) depth 10,
+          search (sendable, crosses, hall_sent K R k sr) depth 10,
           (atomic.the_field_sync, (condvar.the_field_sync, (bells.the_field_sync, (condvar.the_field_sync, tt)))),
         ),
       ))

@@ -23,7 +23,7 @@ use Rattle.fp_slots.specs.contracts.slots.Slots.TheInside as slots_inside
 use Rattle.fp_group_commit.proofs.part.Origin.TheSendSync as origin
 use Rattle.fp_group_commit.specs.contracts.store.Store as store
 use Rattle.fp_group_commit.specs.contracts.store.Store.TheInside as store_inside
-use Rattle.fp_plane.proofs.Crossing.{edit_sent, flags_sent, half_sent}
+use Rattle.fp_hall.proofs.Crossing.{edit_sent, flags_sent, half_sent}
 
 draw_sent : IsSend draw.the_row
 draw_sent = view_send _ _ _ _ _

@@ -7,7 +7,7 @@ use Rattle.fp_committer.specs.Halves.{Names}
 use Rattle.fp_committer.specs.StoreHalf.{KeptBy, StoreHalfState}
 use Rattle.fp_group_commit.specs.Tokens.{Identity}
 use Rattle.fp_plane.specs.Flushing.{IsResting}
-use Rattle.fp_plane.specs.Hall.{IsStoreOf}
+use Rattle.fp_hall.specs.Hall.{IsStoreOf}
 
 -- what who takes its lock finds: the half, whether sealing broke off, whether whoever was told last
 -- was alone, and whether an editor owes a step of a compaction behind its batch

@@ -4,30 +4,27 @@
 //! one is owed.
 
 ghost use Rattle.std.specs.Prelude.{◌≡◌, ◌⊎◌, ◌<◌, ◌≤◌, ◌∷◌, [], true, false, IfErr, IfOk, OnErr};
-ghost use Rattle.std.specs.Prelude.{OnOk, is_ok};
+ghost use Rattle.std.specs.Prelude.{OnOk};
 ghost use Rattle.fp_edit.specs.Edits.{proposal_of};
-ghost use Rattle.fp_committer.specs.Course.{Course, LacksRoom, ListsOn};
+ghost use Rattle.fp_committer.specs.Course.{Course, LacksRoom};
 ghost use Rattle.fp_committer.specs.StoreHalf.{StoreHalfState};
-ghost use Rattle.fp_committer.specs.Way.{batch_drawn, batch_sealed, nothing_drawn};
+ghost use Rattle.fp_committer.specs.Way.{batch_drawn, batch_sealed};
 ghost use Rattle.fp_group_commit.specs.Tokens.{front_revision};
 ghost use Rattle.fp_plane.specs.Flushing.{Flushes, IsResting, PaysEach, StepsWhereDue};
-ghost use Rattle.fp_plane.specs.Hall.{IsStoreOf, settled_by};
+ghost use Rattle.fp_hall.specs.Hall.{IsStoreOf, settled_by};
 ghost use Rattle.fp_plane.specs.declared.flushing.Lull.TheVariants.{Alone};
 
 use crate::gathering::{Gathering, Sealing};
-use crate::hall::{AllSettled, Hall, Refusal};
-use crate::naming::Naming;
 use crate::owned::OwnHalf;
 use crate::pausing::Retries;
 use crate::plane::Plane;
 use crate::sealing::SealingPlane;
 use crate::telling::Seen;
-use crate::ticket::PlaneTicket;
 use fp_committer::{CommitFault, StoreHalf};
 use fp_disk::Disk;
 use fp_edit::Edit;
 use fp_fronts::Front;
-use fp_group_commit::Told;
+use fp_hall::{AllSettled, Hall, Naming, PlaneTicket, Refusal};
 use fp_log::{Event, tell};
 use fp_publish::Shown;
 use log::Log;
@@ -280,114 +277,10 @@ fn compact_on<D: Disk>(half: &mut StoreHalf<D>) -> Result<(), UntoldFailure>
 }
 
 impl<K: Naming, R: Wait + Clock + Log + Drop> Plane<K, R> {
-    // Waits until edits wait, and draws them. `Err` where the plane is to stop and none does: the
-    // hall was ended under the same lock, and no batch is drawn any more.
-    fn draw<D: Disk>(&self, half: &mut StoreHalf<D>, owes_step: &mut bool) -> Result<(), AllSettled>
-        requires ours { IsStoreOf K.store K.desk_lists K.store_lists half.old }
-        requires none { half.old.progress ≡ nothing_drawn }
-        // Nobody draws while a step is owed,
-        requires paid { owes_step.old ≡ false }
-        // `Ok`: a batch is drawn, and a crash keeps what is settled.
-        ensures drawn { OnOk result ((half.new.progress ≡ batch_drawn)
-            × ListsOn D.Disk half.old half.new) }
-        // `Err`: nothing changed.
-        ensures none { OnErr result (half.new ≡ half.old) }
-        // and who draws owes one.
-        ensures owes { owes_step.new ≡ is_ok result }
-    {
-        let shared = &self.shared;
-        half.rest();
-        let mut hall = shared.hall.lock(&shared.rt);
-        let mut retries = Retries::of("batch");
-        for _ in shared.rt.forever() {
-            match hall.draw(half) {
-                Ok(Some(_)) => {
-                    *owes_step = true;
-                    shared.note_waiting(&hall);
-                    half.rest();
-                    return Ok(());
-                }
-                Ok(None) if hall.is_closing() => return Err(hall.end()),
-                Ok(None) => hall = shared.work.wait(&shared.rt, hall),
-                Err(_) => {
-                    drop(hall);
-                    retries.pause(&shared.rt);
-                    hall = shared.hall.lock(&shared.rt);
-                }
-            }
-        }
-        unreachable!()
-    }
-
-    // Settles what is sealed, shows it and tells those whose edits it has, and the subscribers.
-    // Answers how many edits waited then, and what is shown.
-    fn settle<D: Disk>(&self, half: &mut StoreHalf<D>) -> (usize, Shown)
-        requires ours { IsStoreOf K.store K.desk_lists K.store_lists half.old }
-        requires sealed { half.old.progress ≡ batch_sealed }
-        // What was sealed is settled, and a crash keeps it from then on.
-        ensures settled { ListsOn D.Disk half.old half.new }
-        // Nothing is drawn any more.
-        ensures none { half.new.progress ≡ nothing_drawn }
-        // What is settled is shown.
-        ensures shown { settled_by half.new ≤ front_revision result.1 }
-    {
-        let shared = &self.shared;
-        let mut retries = Retries::of("settling");
-        for _ in shared.rt.forever() {
-            let mut hall = shared.hall.lock(&shared.rt);
-            let before = hall.settled_revision();
-            if hall.settle(half).is_ok() {
-                let told = hall.told();
-                let published = hall.publish();
-                let waiting = hall.waiting_count();
-
-                // Who is woken wants the lock.
-                drop(hall);
-                half.rest();
-                let shown = match published {
-                    Ok(shown) => shown,
-                    Err(_) => self.publish(&told),
-                };
-                self.tell(before, &shown);
-                return (waiting, shown);
-            }
-            drop(hall);
-            retries.pause(&shared.rt);
-        }
-        unreachable!()
-    }
-
-    // Wakes the editors of the revisions behind one, up to the last that is shown, and the
-    // subscribers.
-    fn tell(&self, behind: u64, shown: &Shown) {
-        self.shared.bells.ring(behind, shown.revision());
-        self.shared.news.notify_all();
-    }
-
     /// Wakes all who wait for what is sealed.
     pub(crate) fn tell_all(&self) {
         self.shared.bells.ring_all();
         self.shared.news.notify_all();
-    }
-
-    // Shows what is settled, as soon as there is memory for it: at least what was told.
-    fn publish(&self, told: &Told) -> Shown
-        requires ours { told.now.store ≡ K.store }
-        ensures shown { front_revision told.now ≤ front_revision result }
-    {
-        let shared = &self.shared;
-        let mut retries = Retries::of("publication");
-        for _ in shared.rt.forever() {
-            retries.pause(&shared.rt);
-            let mut hall = shared.hall.lock(&shared.rt);
-
-            // Where memory is wanting still, what is shown is behind what was told.
-            let _ = hall.publish();
-            if let Some(shown) = hall.shown(told) {
-                return shown;
-            }
-        }
-        unreachable!()
     }
 
     /// No batch is drawn any more, since sealing failed. Wakes all who wait, and the flusher: that
@@ -415,56 +308,5 @@ impl<K: Naming, R: Wait + Clock + Log + Drop> Plane<K, R> {
         self.tell_all();
         self.shared.work.notify_all();
         Broken { of: () }
-    }
-
-    /// Waits until an edit waits, the plane is to stop, or sealing broke off.
-    pub(crate) fn await_work(&self) {
-        let shared = &self.shared;
-        let mut hall = shared.hall.lock(&shared.rt);
-        for _ in shared.rt.forever() {
-            if hall.waiting_count() > 0 || hall.is_closing() || hall.is_over() {
-                return;
-            }
-            hall = shared.work.wait(&shared.rt, hall);
-        }
-        unreachable!()
-    }
-
-    // Hands an edit in, and draws it with all that waits. Where memory is wanting for the draw, the
-    // flusher is woken, which tries again.
-    fn submit_and_draw<D: Disk>(
-        &self,
-        edit: Edit,
-        half: &mut StoreHalf<D>,
-        owes_step: &mut bool,
-    ) -> (Result<PlaneTicket<K>, (Refusal, Edit)>, bool)
-        requires ours { IsStoreOf K.store K.desk_lists K.store_lists half.old }
-        requires none { half.old.progress ≡ nothing_drawn }
-        requires paid { owes_step.old ≡ false }
-        ensures refused { IfErr result.0 (λ e. e.0.edit ≡ proposal_of edit) }
-        ensures ticket { IfOk result.0 (λ t. (t.store ≡ K.store) × (t.edit ≡ proposal_of edit)) }
-        ensures given_back { IfErr result.0 (λ e. e.1 ≡ edit) }
-        ensures drawn { result.1 ≡ true → (half.new.progress ≡ batch_drawn)
-            × ListsOn D.Disk half.old half.new }
-        ensures none { result.1 ≡ false → half.new ≡ half.old }
-        ensures owes { owes_step.new ≡ result.1 }
-    {
-        let shared = &self.shared;
-        half.rest();
-        let mut hall = shared.hall.lock(&shared.rt);
-        let ticket = match hall.submit(edit) {
-            Ok(ticket) => ticket,
-            Err(refused) => return (Err(refused), false),
-        };
-        if let Ok(Some(_)) = hall.draw(half) {
-            *owes_step = true;
-            shared.note_waiting(&hall);
-            half.rest();
-            return (Ok(ticket), true);
-        }
-        shared.note_waiting(&hall);
-        drop(hall);
-        shared.work.notify_one();
-        (Ok(ticket), false)
     }
 }

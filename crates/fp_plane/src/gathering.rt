@@ -18,10 +18,10 @@ ghost use Rattle.std.specs.Prelude.{MatchBool};
 ghost use Rattle.std.specs.Duration.{as_nanos};
 ghost use Rattle.fp_plane.specs.declared.gathering.TheConstants.{LEAST_WORTH, MOST_AWAITED};
 
-use crate::naming::Naming;
 use crate::plane::Plane;
 use fp_disk::Disk;
 use fp_group_commit::Store;
+use fp_hall::Naming;
 use std::sync::Wait;
 use std::sync::atomic::Ordering;
 use std::thread;

@@ -6,21 +6,19 @@ ghost use Rattle.fp_edit.specs.Edits.{proposal_of};
 ghost use Rattle.fp_committer.specs.StoreHalf.{StoreHalfState};
 ghost use Rattle.fp_committer.specs.Course.{Course};
 ghost use Rattle.fp_plane.specs.Flushing.{Flushes, IsResting, PaysEach, PaysFirst, StepsWhereDue};
-ghost use Rattle.fp_plane.specs.Hall.{IsStoreOf};
+ghost use Rattle.fp_hall.specs.Hall.{IsStoreOf};
 
 use crate::flushing::{
     Broken, Flushed, Lull, UntoldFailure, flush_while_busy, submit_and_flush, take_step,
 };
 use crate::gathering::Gathering;
-use crate::hall::{AllSettled, Refusal};
-use crate::naming::Naming;
 use crate::owned::OwnHalf;
 use crate::plane::Plane;
-use crate::ticket::PlaneTicket;
 use fp_committer::StoreHalf;
 use fp_disk::Disk;
 use fp_edit::Edit;
 use fp_fronts::{Front, Growing, Lists};
+use fp_hall::{AllSettled, Naming, PlaneTicket, Refusal};
 use log::Log;
 use std::marker::{Model, PhantomData};
 use std::sync::Wait;

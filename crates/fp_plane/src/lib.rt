@@ -4,20 +4,18 @@
 mod bells;
 mod flushing;
 mod gathering;
-mod hall;
 mod leading;
-mod naming;
 mod owned;
 mod pausing;
 mod plane;
 mod sealing;
 mod telling;
-mod ticket;
+mod turns;
 
 pub use flushing::{Broken, Flushed, flusher};
-pub use hall::{AllSettled, EvaluatorsUsed, GivenUp, Gone, Hall, Refusal};
-pub use naming::Naming;
+pub use fp_hall::{
+    Accepted, AllSettled, EvaluatorsUsed, GivenUp, Gone, Hall, Naming, PlaneTicket, Refusal,
+};
 pub use owned::OwnHalf;
 pub use plane::Plane;
 pub use sealing::SealingPlane;
-pub use ticket::{Accepted, PlaneTicket};

@@ -20,19 +20,17 @@ ghost use Rattle.std.specs.Prelude.{◌≡◌, ◌∷◌, [], is_err, IfOk, IfEr
 ghost use Rattle.fp_committer.specs.StoreHalf.{StoreHalfState};
 ghost use Rattle.fp_edit.specs.Edits.{proposal_of};
 ghost use Rattle.fp_plane.specs.Flushing.{Flushes, IsResting};
-ghost use Rattle.fp_plane.specs.Hall.{IsStoreOf};
+ghost use Rattle.fp_hall.specs.Hall.{IsStoreOf};
 
 use crate::flushing::{Broken, Flushed};
-use crate::hall::{AllSettled, Refusal};
 use crate::leading::Lying;
-use crate::naming::Naming;
 use crate::owned::OwnHalf;
 use crate::pausing::pause;
 use crate::plane::Plane;
-use crate::ticket::PlaneTicket;
 use fp_disk::Disk;
 use fp_edit::Edit;
 use fp_fronts::{Front, Growing};
+use fp_hall::{AllSettled, Naming, PlaneTicket, Refusal};
 use log::Log;
 use std::alloc::{AllocError, Global};
 use std::sync::{Arc, Mutex, Wait};

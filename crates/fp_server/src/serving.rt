@@ -7,7 +7,7 @@ ghost use Rattle.fp_commands.specs.declared.fault.CommandFault.TheVariants.{Stor
 ghost use Rattle.fp_committer.specs.Course.{GoesThrough};
 ghost use Rattle.fp_group_commit.specs.Store.{IsAtRest, IsFresh};
 ghost use Rattle.fp_plane.specs.Flushing.{Flushes, IsResting};
-ghost use Rattle.fp_plane.specs.Hall.{IsDeskOf, IsNewDesk, IsStoreOf};
+ghost use Rattle.fp_hall.specs.Hall.{IsDeskOf, IsNewDesk, IsStoreOf};
 ghost use Rattle.fp_log.specs.Events.{name_of, opening_text, text_of};
 ghost use Rattle.fp_server.specs.Attends.{Serves};
 ghost use Rattle.fp_server.specs.Ends.{BlamesStreams, IsBrokenOff, IsBrokenStore, IsServedStore};

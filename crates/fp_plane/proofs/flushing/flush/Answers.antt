@@ -1,6 +1,6 @@
 use Rattle.fp_committer.specs.CourseLaws.{course_then}
 use Rattle.fp_committer.proofs.Courses.{course_lists}
-use Rattle.fp_plane.proofs.Halls.{ours_on}
+use Rattle.fp_plane.proofs.HalfLemmas.{ours_on}
 use Rattle.fp_plane.proofs.flushing.flush.Goals as goal
 
 pub settle-waiting-requires-clause-ours : goal.settle-waiting-requires-clause-ours

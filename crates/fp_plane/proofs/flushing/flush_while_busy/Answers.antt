@@ -2,7 +2,7 @@ use Rattle.std.proofs.Common.{◌≡◌, true, [], ap, refl, rules, ◌∙◌}
 use Rattle.fp_committer.specs.CourseLaws.{course_then}
 use Rattle.fp_committer.proofs.Courses.{course_lists}
 use Rattle.fp_group_commit.specs.Store.{StoreState}
-use Rattle.fp_plane.proofs.Halls.{ours_on}
+use Rattle.fp_plane.proofs.HalfLemmas.{ours_on}
 use Rattle.fp_plane.proofs.Steps.{pays_again}
 use Rattle.fp_plane.proofs.flushing.flush_while_busy.Goals as goal
 

@@ -1,7 +1,7 @@
 use Rattle.std.proofs.Common.{◌≡◌, false}
 use Rattle.fp_committer.specs.Course.{Course}
 use Rattle.fp_plane.specs.Flushing.{IsResting, PaysEach}
-use Rattle.fp_plane.specs.Hall.{IsStoreOf}
+use Rattle.fp_hall.specs.Hall.{IsStoreOf}
 use Rattle.fp_plane.proofs.flushing.flush_while_busy.Given as goal
 
 -- the half came this far, by a step behind each batch, and is the plane's, and no step is owed

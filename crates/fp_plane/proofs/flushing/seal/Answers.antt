@@ -1,7 +1,7 @@
 use Rattle.std.proofs.Common.{◌∙◌}
 use Rattle.fp_committer.specs.CourseLaws.{course_then}
 use Rattle.fp_committer.proofs.Courses.{course_calls}
-use Rattle.fp_plane.proofs.Halls.{wants}
+use Rattle.fp_plane.proofs.HalfLemmas.{wants}
 use Rattle.fp_plane.proofs.flushing.seal.Goals as goal
 
 pub returns-in-Ok-clause-course : goal.returns-in-Ok-clause-course

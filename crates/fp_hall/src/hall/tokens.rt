@@ -17,7 +17,7 @@ pub struct Refusal {
 
 impl Model for Refusal {
     ghost use Rattle.fp_edit.specs.Edits.{proposal_of};
-    ghost use Rattle.fp_plane.specs.Hall.{RefusalState};
+    ghost use Rattle.fp_hall.specs.Hall.{RefusalState};
 
     ghost Value = { RefusalState };
 
@@ -61,7 +61,7 @@ impl Model for Gone {
 
 impl Gone {
     /// Asks whether a subscriber has left: `Some` exactly where it is answered so.
-    pub(crate) fn where_left<G: Fn() -> bool>(has_left: &G) -> Option<Gone>
+    pub fn where_left<G: Fn() -> bool>(has_left: &G) -> Option<Gone>
         requires { G.IsAlwaysCallable has_left.now }
         ensures { G.post has_left.now (is_some result) }
     {

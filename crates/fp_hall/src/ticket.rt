@@ -2,7 +2,7 @@
 
 ghost use Rattle.std.specs.Prelude.{◌≡◌, ◌+◌, ◌∷◌, ◌++◌, [], length};
 ghost use Rattle.fp_edit.specs.Edits.{change_in, proposal_of};
-ghost use Rattle.fp_plane.specs.Places.{StandsAt};
+ghost use Rattle.fp_hall.specs.Places.{StandsAt};
 
 use crate::naming::Naming;
 use fp_desk::Ticket;
@@ -53,7 +53,7 @@ impl<K: Naming> Model for PlaneTicket<K> {
     ghost use Rattle.fp_edit.specs.Edits.{change_in};
     ghost use Rattle.fp_edit.specs.Flags.{coded_state};
     ghost use Rattle.fp_group_commit.specs.Changes.{coded_change};
-    ghost use Rattle.fp_plane.specs.Places.{StandsAt};
+    ghost use Rattle.fp_hall.specs.Places.{StandsAt};
 
     ghost Value = { TicketState };
 

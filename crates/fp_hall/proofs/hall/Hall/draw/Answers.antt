@@ -1,7 +1,7 @@
 use Rattle.std.proofs.Common.{sym, ◌∙◌}
-use Rattle.fp_plane.proofs.Halls.{orderly_then}
-use Rattle.fp_plane.proofs.PlaceLemmas.{have_drawn-log, log_then}
-use Rattle.fp_plane.proofs.hall.Hall.draw.Goals as goal
+use Rattle.fp_hall.proofs.Halls.{orderly_then}
+use Rattle.fp_hall.proofs.PlaceLemmas.{have_drawn-log, log_then}
+use Rattle.fp_hall.proofs.hall.Hall.draw.Goals as goal
 
 pub invariant_of-self : goal.invariant_of-self
 invariant_of-self g c =

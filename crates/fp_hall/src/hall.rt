@@ -12,15 +12,15 @@ ghost use Rattle.fp_group_commit.specs.Tokens.{front_revision};
 ghost use Rattle.fp_publish.specs.Fronts.{Begins};
 ghost use Rattle.fp_publish.specs.declared.board.TheConstants.{MOST_EVALUATORS};
 ghost use Rattle.std.specs.Vec.{vec_capacity};
-ghost use Rattle.fp_plane.specs.Hall.{IsAtRest, IsDeskOf, IsNew, IsNewDesk, IsOver, IsStoreOf};
-ghost use Rattle.fp_plane.specs.Hall.{IsUnanswered, desk_of, settled_by};
-ghost use Rattle.fp_plane.specs.Places.{StandsAt};
+ghost use Rattle.fp_hall.specs.Hall.{IsAtRest, IsDeskOf, IsNew, IsNewDesk, IsOver, IsStoreOf};
+ghost use Rattle.fp_hall.specs.Hall.{IsUnanswered, desk_of, settled_by};
+ghost use Rattle.fp_hall.specs.Places.{StandsAt};
 
 mod lending;
 mod tokens;
 
 use crate::naming::Naming;
-use crate::owned::OwnBoard;
+use crate::own_board::OwnBoard;
 use crate::ticket::{Accepted, PlaneTicket};
 use fp_committer::{DeskHalf, StoreHalf};
 use fp_disk::Disk;
@@ -63,7 +63,7 @@ impl<K: Naming, R: Wait + Drop> Model for Hall<K, R> {
     ghost use Rattle.fp_edit.specs.Flags.{coded_state};
     ghost use Rattle.fp_group_commit.specs.Changes.{coded_change};
     ghost use Rattle.fp_publish.specs.declared.board.TheConstants.{MOST_EVALUATORS};
-    ghost use Rattle.fp_plane.specs.Hall.{HallState, IsOrderly};
+    ghost use Rattle.fp_hall.specs.Hall.{HallState, IsOrderly};
 
     ghost Value = { HallState };
 

@@ -1,8 +1,8 @@
 use Rattle.std.proofs.Common.{◌≤◌, sym, ap, subst, ◌∙◌}
 use Rattle.fp_desk.specs.Desk.{DeskState, TicketState, log, settled_revision}
 use Rattle.fp_edit.specs.Edits.{change_in}
-use Rattle.fp_plane.proofs.PlaceLemmas.{stands-told}
-use Rattle.fp_plane.proofs.hall.Hall.answer.Goals as goal
+use Rattle.fp_hall.proofs.PlaceLemmas.{stands-told}
+use Rattle.fp_hall.proofs.hall.Hall.answer.Goals as goal
 
 -- its edit stands among all that was accepted, and its revision is settled
 pub returns-clause-place : goal.returns-clause-place

@@ -13,7 +13,7 @@ use Rattle.fp_publish.specs.contracts.seats.Seats as seats_type
 use Rattle.left_right.proofs.reader.Reader.TheSendSync as reader
 use Rattle.left_right.proofs.reader.Reading.TheSendSync as reading
 use Rattle.left_right.proofs.writer.Writer.TheSendSync as writer
-use Rattle.fp_plane.proofs.Crossing.{edit_field_sent, flags_sent, flags_shared}
+use Rattle.fp_hall.proofs.Crossing.{edit_field_sent, flags_sent, flags_shared}
 
 page_sent : IsSend page.the_row
 page_sent = search (sendable, flags_sent, part.the_send) depth 20

@@ -1,8 +1,8 @@
 use Rattle.std.proofs.Common.{◌≡◌, ◌≤◌, All, vec_len}
 use Rattle.std.specs.Vec.{vec_capacity}
 use Rattle.fp_publish.specs.declared.board.TheConstants.{MOST_EVALUATORS}
-use Rattle.fp_plane.specs.Hall.{IsAtRest}
-use Rattle.fp_plane.proofs.hall.evaluators.Given as goal
+use Rattle.fp_hall.specs.Hall.{IsAtRest}
+use Rattle.fp_hall.proofs.hall.evaluators.Given as goal
 
 -- so many were made, of the board's store, and there is room for all
 abbrev pub invariant-loop : goal.invariant-loop

@@ -7,7 +7,7 @@ use Rattle.fp_committer.specs.StoreHalf.{StoreHalfState}
 use Rattle.fp_desk.specs.Desk.{DeskState, IsNewDraw, log, settled_revision}
 use Rattle.fp_edit.specs.Edits.{Change}
 use Rattle.fp_group_commit.specs.Tokens.{FrontState, Identity}
-use Rattle.fp_plane.specs.Places.{StandsAt}
+use Rattle.fp_hall.specs.Places.{StandsAt}
 use Rattle.fp_publish.specs.Fronts.{Begins}
 use Rattle.fp_record.specs.Group.{Group}
 

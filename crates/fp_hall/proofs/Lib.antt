@@ -1,0 +1,5 @@
+pub mod Crossing
+pub mod HallCrossing
+pub mod PublishCrossing
+pub mod Halls
+pub mod PlaceLemmas
