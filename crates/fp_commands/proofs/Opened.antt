@@ -14,7 +14,7 @@ use Rattle.fp_recovery.specs.Refusals.{StandsForNone}
 use Rattle.fp_recovery.specs.Stands.{StandsFor}
 use Rattle.fp_session.specs.Asks.{Ask}
 use Rattle.fp_commands.specs.Disks.{BlamesRun, IfFileRefused, IsLeftOnDisk, IsOnlyRead, opening_calls}
-use Rattle.fp_commands.specs.Files.{Environment, OnFile, OverFile, RunsOnDisk, Streams, failures}
+use Rattle.fp_commands.specs.Files.{Environment, OnFile, OverFile, RunsOnDisk, Streams, failures, streams_of}
 use Rattle.fp_commands.specs.declared.fault.CommandFault.{CommandFault}
 use Rattle.fp_commands.specs.declared.fault.CommandFault.TheVariants.{Device, StoreFailed}
 use Rattle.fp_commands.proofs.Told.{if_refused}
@@ -79,18 +79,19 @@ lent_once files disk old mid new path purpose after asked others lent well asked
 
 -- what was done there is what the task comes to
 pub on_file : {F R W D : Type 0} (files : FileGhosts F D) (disk : DiskGhosts D) (old new : Environment F R W)
-    (path : List ℕ) (purpose : Purpose) (Found : D → Type 0)
-    (Does : D → D → Result (Unit {0}) CommandFault → Type 0) (outcome : Result (Unit {0}) CommandFault)
-    → OverFile files disk old.files new.files path purpose Found (λ before after. Does before after outcome)
-    → OnFile files disk old new path purpose Found Does outcome
-on_file files disk old new path purpose Found Does (Ok x) h = (x, h)
-on_file files disk old new path purpose Found Does (Err f) h = inr h
+    (path : List ℕ) (purpose : Purpose) (Does : Streams R W → Streams R W → D → D → Result (Unit {0}) CommandFault → Type 0)
+    (outcome : Result (Unit {0}) CommandFault) → OverFile files disk old.files new.files path purpose
+    (λ before after. Does (streams_of old) (streams_of new) before after outcome)
+    → OnFile files disk old new path purpose Does outcome
+on_file files disk old new path purpose Does (Ok x) h = (x, h)
+on_file files disk old new path purpose Does (Err f) h = inr h
 
 -- a fault that ended what was done there is what the task comes to
 pub on_file_err : {F R W D A : Type 0} (files : FileGhosts F D) (disk : DiskGhosts D) (old new : Environment F R W)
-    (path : List ℕ) (purpose : Purpose) (Found : D → Type 0)
-    (Does : D → D → Result A CommandFault → Type 0) (f : CommandFault) (outcome : Result (Unit {0}) CommandFault) → outcome ≡ Err f
-    → OverFile files disk old.files new.files path purpose Found (λ before after. Does before after (Err f))
-    → OnFile files disk old new path purpose Found Does outcome
-on_file_err files disk old new path purpose Found Does f outcome is h =
-    subst (OnFile files disk old new path purpose Found Does) (sym is) (inr h)
+    (path : List ℕ) (purpose : Purpose) (Does : Streams R W → Streams R W → D → D → Result A CommandFault → Type 0)
+    (f : CommandFault) (ended : Result A CommandFault) (outcome : Result (Unit {0}) CommandFault) → ended ≡ Err f → outcome ≡ Err f
+    → OverFile files disk old.files new.files path purpose (λ before after. Does (streams_of old) (streams_of new) before after ended)
+    → OnFile files disk old new path purpose Does outcome
+on_file_err files disk old new path purpose Does f ended outcome was is h =
+    subst (OnFile files disk old new path purpose Does) (sym is) (inr (subst (λ o. OverFile files disk old.files new.files
+    path purpose (λ before after. Does (streams_of old) (streams_of new) before after o)) was h))

@@ -29,13 +29,10 @@ use Rattle.fp_commands.specs.Disks.{IsShowingFault, IsShown, IsStreamFault, IsTo
 use Rattle.fp_commands.specs.Disks.{LacksRoom}
 use Rattle.fp_commands.specs.Eval.{IsEvaluated}
 use Rattle.fp_commands.specs.Faults.{of_run}
-use Rattle.fp_commands.specs.Task.{no_flags}
+use Rattle.fp_commands.specs.Task.{Task, apply, init, apply_file, show, import, eval, no_flags}
 use Rattle.fp_commands.specs.declared.fault.CommandFault.{CommandFault}
 use Rattle.fp_commands.specs.declared.fault.CommandFault.TheVariants.{Device, NotEmpty}
 use Rattle.fp_commands.specs.declared.fault.CommandFault.TheVariants.{StoreFailed}
-use Rattle.fp_commands.specs.declared.program.Task.{Task}
-use Rattle.fp_commands.specs.declared.program.Task.TheVariants.{Apply, InitFile, ApplyFile}
-use Rattle.fp_commands.specs.declared.program.Task.TheVariants.{ShowFile, ImportFile, EvalFile}
 
 -- what a command reads from and writes to, at a moment
 pub record Streams (R W : Type 0) : Type 0 where
@@ -205,7 +202,7 @@ ImportsToDisk disk remaining contents old new before after outcome =
 -- the reply for a flag of what the disk stands for was written, and nothing on the disk
 pub record EvaluatesOnDisk {R W D : Type 0} (disk : DiskGhosts D) (remaining : R
     → Option (List ℕ))
-    (contents : W → Option (List ℕ)) (old new : Streams R W) (key : List ℕ) (now : ℕ)
+    (contents : W → Option (List ℕ)) (key : List ℕ) (now : ℕ) (old new : Streams R W)
     (before after : D) (outcome : Result (Unit {0}) CommandFault) : Type 0 where
   pub evaluated : OnOk outcome (IsEvaluated (disk.honest before) (disk.bytes before) key now
       (remaining old.reader.inner) (contents old.writer.inner) (contents new.writer.inner))
@@ -223,14 +220,19 @@ pub record EvaluatesOnDisk {R W D : Type 0} (disk : DiskGhosts D) (remaining : R
 
 -- ---- over files
 
+-- this disk was at the path; where one is to be made it may be a new one
+abbrev pub IsFound : {F D : Type 0} → FileGhosts F D → DiskGhosts D → F → List ℕ → Purpose → D
+    → Type 0
+IsFound files disk old path Making before = IsThereOrNew files disk old path before
+IsFound files disk old path purpose before = IsThere files old path before
+
 -- A file was opened alone, once and for this, the disk that was found there became another,
 -- which stands there now, and this is what was done with it
 pub record OverFile {F D : Type 0} (files : FileGhosts F D) (disk : DiskGhosts D) (old new : F)
-    (path : List ℕ) (purpose : Purpose) (Found : D → Type 0) (Does : D → D → Type 0)
-    : Type 0 where
+    (path : List ℕ) (purpose : Purpose) (Does : D → D → Type 0) : Type 0 where
   pub before : D
   pub after : D
-  pub found : Found before
+  pub found : IsFound files disk old path purpose before
   pub lent : IsLentOnce files disk old new path purpose after
   pub does : Does before after
 
@@ -244,38 +246,31 @@ pub record FailsToOpen {F R W D : Type 0} (files : FileGhosts F D) (old new : En
 
 -- what a task over the disk at a path comes to
 abbrev pub OnFile : {F R W D A : Type 0} → FileGhosts F D → DiskGhosts D → Environment F R W
-    → Environment F R W
-    → List ℕ → Purpose → (D → Type 0) → (D → D → Result A CommandFault → Type 0)
+    → Environment F R W → List ℕ → Purpose
+    → (Streams R W → Streams R W → D → D → Result A CommandFault → Type 0)
     → Result (Unit {0}) CommandFault → Type 0
-OnFile {A = A} files disk old new path purpose Found Does (Ok x) =
-    (a : A) × OverFile files disk old.files new.files path purpose Found
-    (λ before after. Does before after (Ok a))
-OnFile files disk old new path purpose Found Does (Err f) =
+OnFile {A = A} files disk old new path purpose Does (Ok x) =
+    (a : A) × OverFile files disk old.files new.files path purpose
+    (λ before after. Does (streams_of old) (streams_of new) before after (Ok a))
+OnFile files disk old new path purpose Does (Err f) =
     FailsToOpen files old new path purpose f
-    ⊎ OverFile files disk old.files new.files path purpose Found
-    (λ before after. Does before after (Err f))
+    ⊎ OverFile files disk old.files new.files path purpose
+    (λ before after. Does (streams_of old) (streams_of new) before after (Err f))
 
 -- What a task comes to: it is done, or this fault ended it. Over memory no file is opened; what
 -- changes a file has its lock, and what shows it opens it for reading alone
 abbrev pub Performs : {F R W D : Type 0} → FileGhosts F D → DiskGhosts D → (R → Option (List ℕ))
-    → (W → Option (List ℕ))
-    → Environment F R W → Environment F R W → Task → List ℕ → List ℕ → ℕ
-    → Result (Unit {0}) CommandFault
-    → Type 0
-Performs files disk remaining contents old new Apply path key now outcome = (new.files ≡ old.files)
+    → (W → Option (List ℕ)) → Environment F R W → Environment F R W → Task → ℕ
+    → Result (Unit {0}) CommandFault → Type 0
+Performs files disk remaining contents old new apply now outcome = (new.files ≡ old.files)
     × AppliesInMemory remaining contents old.reader new.reader old.writer new.writer outcome
-Performs files disk remaining contents old new InitFile path key now outcome =
-    OnFile files disk old new path Making (IsThereOrNew files disk old.files path)
-    (MakesDisk disk (streams_of old) (streams_of new)) outcome
-Performs files disk remaining contents old new ShowFile path key now outcome =
-    OnFile files disk old new path Reading (IsThere files old.files path)
-    (ShowsDisk disk contents (streams_of old) (streams_of new)) outcome
-Performs files disk remaining contents old new ApplyFile path key now outcome =
-    OnFile files disk old new path Writing (IsThere files old.files path)
-    (AppliesToDisk disk remaining contents (streams_of old) (streams_of new)) outcome
-Performs files disk remaining contents old new ImportFile path key now outcome =
-    OnFile files disk old new path Writing (IsThere files old.files path)
-    (ImportsToDisk disk remaining contents (streams_of old) (streams_of new)) outcome
-Performs files disk remaining contents old new EvalFile path key now outcome =
-    OnFile files disk old new path Reading (IsThere files old.files path)
-    (EvaluatesOnDisk disk remaining contents (streams_of old) (streams_of new) key now) outcome
+Performs files disk remaining contents old new (init path) now outcome =
+    OnFile files disk old new path Making (MakesDisk disk) outcome
+Performs files disk remaining contents old new (show path) now outcome =
+    OnFile files disk old new path Reading (ShowsDisk disk contents) outcome
+Performs files disk remaining contents old new (apply_file path) now outcome =
+    OnFile files disk old new path Writing (AppliesToDisk disk remaining contents) outcome
+Performs files disk remaining contents old new (import path) now outcome =
+    OnFile files disk old new path Writing (ImportsToDisk disk remaining contents) outcome
+Performs files disk remaining contents old new (eval path key) now outcome =
+    OnFile files disk old new path Reading (EvaluatesOnDisk disk remaining contents key now) outcome

@@ -8,36 +8,47 @@ use Rattle.fp_streams.specs.Said.{AppendsLine}
 use Rattle.fp_commands.specs.Faults.{fault_text}
 use Rattle.fp_commands.specs.declared.fault.CommandFault.{CommandFault}
 use Rattle.fp_commands.specs.Numbers.{IMAGE_LIMIT}
-use Rattle.fp_commands.specs.declared.program.Task.{Task}
-use Rattle.fp_commands.specs.declared.program.Task.TheVariants.{Apply, InitFile, ApplyFile}
-use Rattle.fp_commands.specs.declared.program.Task.TheVariants.{ShowFile, ImportFile, EvalFile}
+use Rattle.fp_commands.specs.declared.program.Task as code
+use Rattle.fp_commands.specs.declared.program.Task.TheVariants.{Apply, Init, ApplyFile, Show}
+use Rattle.fp_commands.specs.declared.program.Task.TheVariants.{Import, Eval}
 
--- a command's name that wants the path of a file behind it
-abbrev pub over_file : List ℕ → Option Task
-over_file word =
-    if bytes_eq word (codes "init") then Some InitFile else
-    if bytes_eq word (codes "apply") then Some ApplyFile else
-    if bytes_eq word (codes "show") then Some ShowFile else
-    if bytes_eq word (codes "import") then Some ImportFile else None
+-- what words ask for: `apply` is over memory, and all others over the file at this path
+pub data Task : Type 0 where
+  apply : Task
+  init : List ℕ → Task
+  apply_file : List ℕ → Task
+  show : List ℕ → Task
+  import : List ℕ → Task
+  -- the path, and the key of a flag
+  eval : List ℕ → List ℕ → Task
 
-abbrev pub with_path : List ℕ → Option Task → Option (Task × List ℕ × List ℕ)
-with_path path None = None
-with_path path (Some task) = Some (task, path, [])
+abbrev pub task_seen : code.Task → Task
+task_seen Apply = apply
+task_seen (Init path) = init path.now
+task_seen (ApplyFile path) = apply_file path.now
+task_seen (Show path) = show path.now
+task_seen (Import path) = import path.now
+task_seen (Eval path key) = eval path.now key.now
 
--- a command's name that wants the key of a flag behind the path; the empty key is none
-abbrev pub of_flag : List ℕ → List ℕ → List ℕ → Option (Task × List ℕ × List ℕ)
+-- a command's name with the path of a file behind it
+abbrev pub over_file : List ℕ → List ℕ → Option Task
+over_file word path =
+    if bytes_eq word (codes "init") then Some (init path) else
+    if bytes_eq word (codes "apply") then Some (apply_file path) else
+    if bytes_eq word (codes "show") then Some (show path) else
+    if bytes_eq word (codes "import") then Some (import path) else None
+
+-- a command's name with the key of a flag behind the path; the empty key is none
+abbrev pub of_flag : List ℕ → List ℕ → List ℕ → Option Task
 of_flag word path [] = None
-of_flag word path (b ∷ key) =
-    if bytes_eq word (codes "eval") then Some (EvalFile, path, b ∷ key) else None
+of_flag word path key = if bytes_eq word (codes "eval") then Some (eval path key) else None
 
--- the task, the path, which `apply` alone has none of, and the key,
--- which `eval` alone has; all other words are no command
-abbrev pub task_of_words : List (List ℕ) → Option (Task × List ℕ × List ℕ)
-task_of_words [] = None
-task_of_words (word ∷ []) = if bytes_eq word (codes "apply") then Some (Apply, [], []) else None
-task_of_words (word ∷ path ∷ []) = with_path path (over_file word)
+-- all other words are no command
+abbrev pub task_of_words : List (List ℕ) → Option Task
+task_of_words (word ∷ []) = if bytes_eq word (codes "apply") then Some apply else None
+task_of_words (word ∷ path ∷ []) = over_file word path
 task_of_words (word ∷ path ∷ key ∷ []) = of_flag word path key
-task_of_words (word ∷ path ∷ key ∷ next ∷ more) = None
+task_of_words words = None
 
 -- what a run over memory starts from, and what a new disk stands for
 abbrev pub no_flags : State

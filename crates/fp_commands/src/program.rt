@@ -1,15 +1,12 @@
 //! The program: its words, its files, its streams and its status.
 
-ghost use Rattle.std.specs.Prelude.{◌≡◌, ◌<◌, ◌≤◌, ◌^◌, ◌↔◌, [], Ok, Err, None, Some, IfSome, OnOk};
-ghost use Rattle.std.specs.Prelude.{MatchOption, map, string_bytes};
-ghost use Rattle.fp_commands.specs.Files.{AppliesInMemory, Performs};
-ghost use Rattle.fp_commands.specs.Task.{NoneFailed, TellsFault, WritesLine, of_flag};
-ghost use Rattle.fp_commands.specs.Task.{task_of_words};
-ghost use Rattle.fp_commands.specs.Task.{over_file};
-ghost use Rattle.fp_commands.specs.Task.{usage};
-ghost use Rattle.fp_commands.specs.declared.program.Task.TheVariants.{ApplyFile, EvalFile};
-ghost use Rattle.fp_commands.specs.declared.program.Task.TheVariants.{ImportFile, InitFile};
-ghost use Rattle.fp_commands.specs.declared.program.Task.TheVariants.{ShowFile};
+ghost use Rattle.std.specs.Prelude.{◌≡◌, ◌<◌, ◌≤◌, ◌^◌, ◌↔◌, Ok, Err, None, IfSome, OnOk};
+ghost use Rattle.std.specs.Prelude.{map, option_map, string_bytes};
+ghost use Rattle.fp_files.specs.declared.openings.Purpose.TheVariants.{Making, Reading, Writing};
+ghost use Rattle.fp_commands.specs.Files.{AppliesInMemory, AppliesToDisk, EvaluatesOnDisk};
+ghost use Rattle.fp_commands.specs.Files.{ImportsToDisk, MakesDisk, OnFile, Performs, ShowsDisk};
+ghost use Rattle.fp_commands.specs.Task.{NoneFailed, TellsFault, WritesLine, over_file};
+ghost use Rattle.fp_commands.specs.Task.{task_of_words, task_seen, usage};
 
 use crate::disk::{apply_disk, import_disk, init_disk, show_disk};
 use crate::ending::status_of;
@@ -28,15 +25,15 @@ const USAGE: &str =
 /// The most bytes of the image of flags that are kept in memory.
 pub const IMAGE_LIMIT: u64 = 0x80_0000;
 
-// What there is to do; all but the first are over a file.
-#[derive(Debug, Clone, Copy)]
-enum Task {
+// What there is to do; all but the first are over the file at a path.
+#[derive(Debug, Drop)]
+enum Task<'w> {
     Apply,
-    InitFile,
-    ApplyFile,
-    ShowFile,
-    ImportFile,
-    EvalFile,
+    Init(&'w str),
+    ApplyFile(&'w str),
+    Show(&'w str),
+    Import(&'w str),
+    Eval { path: &'w str, key: &'w str },
 }
 
 /// Runs the command that the words name, over files and streams, and answers the program's status:
@@ -79,7 +76,7 @@ where
         Performs F.DiskFiles F.Disk.Disk R.remaining W.contents
         (record { files = files.old; reader = r.old; writer = w.old })
         (record { files = files.new; reader = r.new; writer = w.new })
-        task.0 task.1 task.2 now (Ok tt)) }
+        task now (Ok tt)) }
     // At 0 neither the reader nor the writer failed.
     ensures no_failure { result ≡ 0 → NoneFailed r.old r.new w.old w.new }
     // At 0 nothing was told.
@@ -95,53 +92,42 @@ where
         Performs F.DiskFiles F.Disk.Disk R.remaining W.contents
         (record { files = files.old; reader = r.old; writer = w.old })
         (record { files = files.new; reader = r.new; writer = w.new })
-        task.0 task.1 task.2 now (Err fault))) }
+        task now (Err fault))) }
     // The status is at most 2.
     ensures small { result ≤ 2 }
 {
-    let Some((task, path, key)) = task_of(words) else {
+    let Some(task) = task_of(words) else {
         let _ = e.say(&USAGE);
         return 2;
     };
-    let outcome = perform(alloc, files, task, path, key, now, r, w);
+    let outcome = perform(alloc, files, task, now, r, w);
     status_of(e, outcome)
 }
 
-fn task_of(words: &[String]) -> Option<(Task, &str, &str)>
-    ensures { MatchOption result (task_of_words (map string_bytes words.now) ≡ None)
-        (λ task. task_of_words (map string_bytes words.now)
-        ≡ Some (task.0, task.1.now, task.2.now)) }
+fn task_of(words: &[String]) -> Option<Task<'_>>
+    ensures { option_map task_seen result ≡ task_of_words (map string_bytes words.now) }
 {
     match words {
-        [word] if word.as_str() == "apply" => Some((Task::Apply, "", "")),
-        [word, path] => Some((task_over_file(word.as_str())?, path.as_str(), "")),
-        [word, path, key] => task_of_flag(word.as_str(), path.as_str(), key.as_str()),
+        [word] if word.as_str() == "apply" => Some(Task::Apply),
+        [word, path] => task_over_file(word.as_str(), path.as_str()),
+        [word, path, key] if word.as_str() == "eval" && !key.is_empty() => {
+            Some(Task::Eval {
+                path: path.as_str(),
+                key: key.as_str(),
+            })
+        }
         _ => None,
     }
 }
 
-// The empty key is none.
-fn task_of_flag<'w>(word: &str, path: &'w str, key: &'w str) -> Option<(Task, &'w str, &'w str)>
-    ensures { MatchOption result (of_flag word.now path.now key.now ≡ None)
-        (λ task. of_flag word.now path.now key.now ≡ Some (task.0, task.1.now, task.2.now)) }
-{
-    if key.is_empty() {
-        return None;
-    }
-    if word != "eval" {
-        return None;
-    }
-    Some((Task::EvalFile, path, key))
-}
-
-fn task_over_file(word: &str) -> Option<Task>
-    ensures { result ≡ over_file word.now }
+fn task_over_file<'w>(word: &str, path: &'w str) -> Option<Task<'w>>
+    ensures { option_map task_seen result ≡ over_file word.now path.now }
 {
     match word {
-        "init" => Some(Task::InitFile),
-        "apply" => Some(Task::ApplyFile),
-        "show" => Some(Task::ShowFile),
-        "import" => Some(Task::ImportFile),
+        "init" => Some(Task::Init(path)),
+        "apply" => Some(Task::ApplyFile(path)),
+        "show" => Some(Task::Show(path)),
+        "import" => Some(Task::Import(path)),
         _ => None,
     }
 }
@@ -150,8 +136,6 @@ fn perform<F: DiskFiles, R: Read, W: Write>(
     alloc: Global,
     files: &mut F,
     task: Task,
-    path: &str,
-    key: &str,
     now: u64,
     r: &mut FailureCounted<R>,
     w: &mut FailureCounted<W>,
@@ -160,16 +144,16 @@ fn perform<F: DiskFiles, R: Read, W: Write>(
     ensures performs { Performs F.DiskFiles F.Disk.Disk R.remaining W.contents
         (record { files = files.old; reader = r.old; writer = w.old })
         (record { files = files.new; reader = r.new; writer = w.new })
-        task path.now key.now now result }
+        (task_seen task.entry) now result }
     ensures no_failure { OnOk result (NoneFailed r.old r.new w.old w.new) }
 {
     match task {
         Task::Apply => apply(alloc, r, w),
-        Task::InitFile => init_file(alloc, files, path, r, w),
-        Task::ApplyFile => apply_file(alloc, files, path, r, w),
-        Task::ShowFile => show_file(alloc, files, path, r, w),
-        Task::ImportFile => import_file(alloc, files, path, r, w),
-        Task::EvalFile => eval_file(alloc, files, path, key, now, r, w),
+        Task::Init(path) => init_file(alloc, files, path, r, w),
+        Task::ApplyFile(path) => apply_file(alloc, files, path, r, w),
+        Task::Show(path) => show_file(alloc, files, path, r, w),
+        Task::Import(path) => import_file(alloc, files, path, r, w),
+        Task::Eval { path, key } => eval_file(alloc, files, path, key, now, r, w),
     }
 }
 
@@ -195,10 +179,10 @@ fn init_file<F: DiskFiles, R: Read, W: Write>(
     _r: &FailureCounted<R>,
     _w: &FailureCounted<W>,
 ) -> Result<(), CommandFault>
-    ensures { Performs F.DiskFiles F.Disk.Disk R.remaining W.contents
+    ensures { OnFile F.DiskFiles F.Disk.Disk
         (record { files = files.old; reader = _r.now; writer = _w.now })
         (record { files = files.new; reader = _r.now; writer = _w.now })
-        InitFile path.now [] 0 result }
+        path.now Making (MakesDisk F.Disk.Disk) result }
 {
     let disk = files.create(path)?;
     let (disk, outcome) = init_disk(alloc, disk);
@@ -214,10 +198,10 @@ fn apply_file<F: DiskFiles, R: Read, W: Write>(
     r: &mut FailureCounted<R>,
     w: &mut FailureCounted<W>,
 ) -> Result<(), CommandFault>
-    ensures performs { Performs F.DiskFiles F.Disk.Disk R.remaining W.contents
+    ensures performs { OnFile F.DiskFiles F.Disk.Disk
         (record { files = files.old; reader = r.old; writer = w.old })
         (record { files = files.new; reader = r.new; writer = w.new })
-        ApplyFile path.now [] 0 result }
+        path.now Writing (AppliesToDisk F.Disk.Disk R.remaining W.contents) result }
     ensures no_failure { OnOk result (NoneFailed r.old r.new w.old w.new) }
 {
     let disk = files.open(path)?;
@@ -235,10 +219,10 @@ fn show_file<F: DiskFiles, R: Read, W: Write>(
     _r: &FailureCounted<R>,
     w: &mut FailureCounted<W>,
 ) -> Result<(), CommandFault>
-    ensures performs { Performs F.DiskFiles F.Disk.Disk R.remaining W.contents
+    ensures performs { OnFile F.DiskFiles F.Disk.Disk
         (record { files = files.old; reader = _r.now; writer = w.old })
         (record { files = files.new; reader = _r.now; writer = w.new })
-        ShowFile path.now [] 0 result }
+        path.now Reading (ShowsDisk F.Disk.Disk W.contents) result }
     ensures no_failure { OnOk result (w.new.failures ≤ w.old.failures) }
 {
     let disk = files.open_read_only(path)?;
@@ -255,10 +239,10 @@ fn import_file<F: DiskFiles, R: Read, W: Write>(
     r: &mut FailureCounted<R>,
     w: &mut FailureCounted<W>,
 ) -> Result<(), CommandFault>
-    ensures performs { Performs F.DiskFiles F.Disk.Disk R.remaining W.contents
+    ensures performs { OnFile F.DiskFiles F.Disk.Disk
         (record { files = files.old; reader = r.old; writer = w.old })
         (record { files = files.new; reader = r.new; writer = w.new })
-        ImportFile path.now [] 0 result }
+        path.now Writing (ImportsToDisk F.Disk.Disk R.remaining W.contents) result }
     ensures no_failure { OnOk result (NoneFailed r.old r.new w.old w.new) }
 {
     let disk = files.open(path)?;
@@ -279,10 +263,11 @@ fn eval_file<F: DiskFiles, R: Read, W: Write>(
     w: &mut FailureCounted<W>,
 ) -> Result<(), CommandFault>
     requires { now < 2 ^ 63 }
-    ensures performs { Performs F.DiskFiles F.Disk.Disk R.remaining W.contents
+    ensures performs { OnFile F.DiskFiles F.Disk.Disk
         (record { files = files.old; reader = r.old; writer = w.old })
         (record { files = files.new; reader = r.new; writer = w.new })
-        EvalFile path.now key.now now result }
+        path.now Reading
+        (EvaluatesOnDisk F.Disk.Disk R.remaining W.contents key.now now) result }
     ensures no_failure { OnOk result (NoneFailed r.old r.new w.old w.new) }
 {
     let disk = files.open_read_only(path)?;

@@ -1,6 +1,5 @@
 use Rattle.std.proofs.Common.{refl}
 use Rattle.fp_files.specs.declared.openings.Purpose.TheVariants.{Making}
-use Rattle.fp_files.specs.Lending.{IsThereOrNew}
 use Rattle.fp_commands.proofs.Opened.{lent_once, on_file}
 use Rattle.fp_commands.specs.Files.{MakesDisk}
 use Rattle.fp_commands.proofs.program.init_file.Goals as goal
@@ -10,9 +9,7 @@ returns g c =
     let o = c.in_ok-disk.ensures in
     let made = c.init_disk-disk.ensures in
     let back = c.close.ensures in
-    on_file g.F.DiskFiles g.F.Disk.Disk _ _ c.args.path.now Making
-    (IsThereOrNew g.F.DiskFiles g.F.Disk.Disk c.args.files.now c.args.path.now) (MakesDisk g.F.Disk.Disk _ _)
-    c.init_disk-disk.result.1 (record {
+    on_file g.F.DiskFiles g.F.Disk.Disk _ _ c.args.path.now Making (MakesDisk g.F.Disk.Disk) c.init_disk-disk.result.1 (record {
       before = c.in_ok-disk.disk;
       after = c.init_disk-disk.result.0;
       found = o.found;

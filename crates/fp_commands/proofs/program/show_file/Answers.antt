@@ -1,6 +1,5 @@
 use Rattle.std.proofs.Common.{rules, refl}
 use Rattle.fp_files.specs.declared.openings.Purpose.TheVariants.{Reading}
-use Rattle.fp_files.specs.Lending.{IsThere}
 use Rattle.fp_commands.proofs.Opened.{lent_once, on_file, only_read}
 use Rattle.fp_commands.specs.Files.{ShowsDisk}
 use Rattle.fp_commands.proofs.program.show_file.Goals as goal
@@ -9,8 +8,7 @@ pub returns-clause-performs : goal.returns-clause-performs
 returns-clause-performs g c =
     let o = c.in_ok-disk.ensures in
     let back = c.close.ensures in
-    on_file g.F.DiskFiles g.F.Disk.Disk _ _ c.args.path.now Reading
-    (IsThere g.F.DiskFiles c.args.files.now c.args.path.now) (ShowsDisk g.F.Disk.Disk g.W.Write.contents _ _)
+    on_file g.F.DiskFiles g.F.Disk.Disk _ _ c.args.path.now Reading (ShowsDisk g.F.Disk.Disk g.W.Write.contents)
     c.show_disk-disk.result.1 (record {
       before = c.in_ok-disk.disk;
       after = c.show_disk-disk.result.0;
