@@ -1,12 +1,11 @@
 -- What a reply depends on of a request of HTTP.
-use Rattle.std.specs.Prelude.{◌≡◌, ℕ, List, [], ◌∷◌, Option, Some, None, codes, option_map}
+use Rattle.std.specs.Prelude.{◌≡◌, ℕ, List, [], Option, Some, None, codes, option_map}
 use Rattle.std.specs.Prelude.{string_bytes}
-use Rattle.std.specs.List.{join_by}
 use Rattle.http.specs.declared.request.Parts.{Parts}
-use Rattle.http_header.specs.FieldValue.{FieldValue}
 use Rattle.http_header.specs.HeaderMap.{get_all}
 use Rattle.http_uri.specs.Uri.{uri_path_and_query}
 use Rattle.http_uri.specs.Grammar.{or_slash}
+use Rattle.fp_ofrep.specs.Fields.{list_of}
 use Rattle.fp_http.specs.declared.asked.Asked.{Asked}
 
 abbrev pub text_of : Option (List ℕ) → List ℕ
@@ -16,11 +15,6 @@ text_of (Some text) = or_slash text
 -- the path and the query as one text; a request for no path has none
 abbrev pub target_of : Parts → List ℕ
 target_of head = text_of (uri_path_and_query head.uri)
-
--- the values of a name's fields as one list, with a comma between; none where there is no field
-abbrev pub list_of : List FieldValue → Option (List ℕ)
-list_of [] = None
-list_of (first ∷ more) = Some (join_by (λ v. v.bytes) (codes ", ") (first ∷ more))
 
 -- the method, the target, and the list of all fields `if-none-match`
 pub record IsAsked (head : Parts) (asked : Asked) : Type 0 where

@@ -2,8 +2,8 @@
 
 use crate::blocking::Note;
 use crate::evaluator::Evaluator;
-use crate::moment::Moment;
 use crate::service::Answers;
+use fp_ofrep::Moment;
 use futures::executor::block_on;
 use hyper::server::conn::http1;
 use std::alloc::AllocGlobal;

@@ -3,6 +3,7 @@ pub mod Bodies
 pub mod Bulk
 pub mod Context
 pub mod Failures
+pub mod Fields
 pub mod Kept
 pub mod Laws
 pub mod Reply

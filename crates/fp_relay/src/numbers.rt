@@ -30,6 +30,9 @@ struct AnsweredCounts {
     not_found: AtomicU64,
     not_allowed: AtomicU64,
     too_long: AtomicU64,
+    target_too_long: AtomicU64,
+    head_too_long: AtomicU64,
+    not_implemented: AtomicU64,
     unavailable: AtomicU64,
 }
 
@@ -43,11 +46,15 @@ impl AnsweredCounts {
             not_found: AtomicU64::new(0),
             not_allowed: AtomicU64::new(0),
             too_long: AtomicU64::new(0),
+            target_too_long: AtomicU64::new(0),
+            head_too_long: AtomicU64::new(0),
+            not_implemented: AtomicU64::new(0),
             unavailable: AtomicU64::new(0),
         }
     }
 
-    // One more of this status, if it is shown: of the others a request is refused alone.
+    // One more of this status, if it is shown. The one other, 500, is of a response that couldn't
+    // be written.
     fn count(&self, status: u16) {
         let count = match status {
             200 => &self.ok,
@@ -57,6 +64,9 @@ impl AnsweredCounts {
             404 => &self.not_found,
             405 => &self.not_allowed,
             413 => &self.too_long,
+            414 => &self.target_too_long,
+            431 => &self.head_too_long,
+            501 => &self.not_implemented,
             503 => &self.unavailable,
             _ => return,
         };
@@ -72,6 +82,9 @@ impl AnsweredCounts {
             not_found: read(&self.not_found),
             not_allowed: read(&self.not_allowed),
             too_long: read(&self.too_long),
+            target_too_long: read(&self.target_too_long),
+            head_too_long: read(&self.head_too_long),
+            not_implemented: read(&self.not_implemented),
             unavailable: read(&self.unavailable),
         }
     }

@@ -1,6 +1,6 @@
 //! The services of a relay's ports, as its loops ask them.
 
-ghost use Rattle.std.specs.Prelude.{◌≡◌, ◌<◌, ◌^◌, ℕ, Some, option_map};
+ghost use Rattle.std.specs.Prelude.{◌≡◌, ℕ, Some, option_map};
 ghost use Rattle.std.specs.Arc.{arc_value};
 ghost use Rattle.http.specs.Request.{head_of};
 ghost use Rattle.http_uri.specs.Uri.{uri_path};
@@ -16,15 +16,12 @@ use crate::set::Set;
 use bytes::Bytes;
 use fp_connections::{Counted, Counts};
 use fp_loop::Informed;
-use fp_relay_replies::{Origins, Report, answer_status, respond};
+use fp_relay_replies::{Moment, Origins, Report, answer_status, respond};
 use http::Request;
 use http_server::{Response, Service};
 use std::alloc::{AllocError, Global};
 use std::sync::Arc;
-use std::time::{Clock, SystemTime, UNIX_EPOCH};
-
-// The last moment that a reply knows.
-const LAST_MOMENT: u64 = 0x7fff_ffff_ffff_ffff;
+use std::time::Clock;
 
 /// Evaluations, over the newest set that their loop was shown.
 #[derive(Drop)]
@@ -68,7 +65,7 @@ impl<R: Clock + Drop> Service for Evaluations<R> {
             Some(set) => Some(set.shown()),
             None => None,
         };
-        let now = moment(&self.rt);
+        let now = Moment::now(&self.rt);
         respond(self.alloc, shown, &self.origins, request, now, response)?;
         self.numbers.answer(response.status.as_u16());
         Ok(())
@@ -144,17 +141,4 @@ fn add_counts(report: &mut Report, counted: &Counted)
     report.connections = counted.requesters.saturating_add(counted.subscribers);
     report.connections_total = counted.accepted;
     report.refused_total = counted.refused;
-}
-
-/// The seconds since 1970, and 0 before it or without a clock.
-fn moment<R: Clock>(rt: &R) -> u64
-    ensures { result < 2 ^ 63 }
-{
-    let Ok(now) = SystemTime::now(rt) else {
-        return 0;
-    };
-    match now.duration_since(UNIX_EPOCH) {
-        Ok(since) => since.as_secs().min(LAST_MOMENT),
-        Err(_) => 0,
-    }
 }

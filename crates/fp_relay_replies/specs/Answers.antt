@@ -12,6 +12,7 @@ use Rattle.fp_shown.specs.Sets.{IsLawful, IsSetOf}
 use Rattle.fp_stream.specs.Frames.{Snapshot}
 use Rattle.fp_relay_replies.specs.Asking.{Asked}
 use Rattle.fp_relay_replies.specs.CrossOrigin.{Allowed, allowed, and_allowing, and_leave, and_one}
+use Rattle.fp_relay_replies.specs.CrossOrigin.{and_varying, are_told_apart}
 
 -- a status, the header fields in order, and a body
 pub record Answer : Type 0 where
@@ -70,17 +71,18 @@ answer_from_set set asked allowance now = if asks_leave asked allowance then lea
 abbrev pub answer_without_set : Asked → Option Allowed → Answer
 answer_without_set asked allowance = if asks_leave asked allowance then leave else not_yet
 
--- with the fields that tell a page what is allowed to it
-abbrev pub and_allowed : Answer → Option Allowed → Answer
-and_allowed answer allowance =
-    record answer { fields = and_allowing answer.fields allowance }
+-- with the fields that tell a page what is allowed to it, and caches whether that depends on it
+abbrev pub and_allowed : Answer → List (List ℕ) → Option Allowed → Answer
+and_allowed answer origins allowance = record answer {
+  fields = and_varying (and_allowing answer.fields allowance) (are_told_apart origins);
+}
 
 abbrev pub answer_from : Option State → List (List ℕ) → Asked → ℕ → Answer
 answer_from None origins asked now =
-    and_allowed (answer_without_set asked (allowed origins asked.origin))
+    and_allowed (answer_without_set asked (allowed origins asked.origin)) origins
     (allowed origins asked.origin)
 answer_from (Some set) origins asked now =
-    and_allowed (answer_from_set set asked (allowed origins asked.origin) now)
+    and_allowed (answer_from_set set asked (allowed origins asked.origin) now) origins
     (allowed origins asked.origin)
 
 -- a response is this answer

@@ -1,6 +1,6 @@
 -- What pages of other origins are allowed.
-use Rattle.std.specs.Prelude.{ℕ, List, [], ◌∷◌, ◌++◌, ◌||◌, Bool, false, Option, Some, None, codes}
-use Rattle.std.specs.Prelude.{bytes_eq, if◌then◌else◌}
+use Rattle.std.specs.Prelude.{ℕ, List, [], ◌∷◌, ◌++◌, ◌||◌, Bool, true, false, not}
+use Rattle.std.specs.Prelude.{Option, Some, None, bytes_eq, codes, if◌then◌else◌}
 use Rattle.http1.specs.Fields.{Header}
 use Rattle.fp_relay_replies.specs.declared.cross_origin.Allowance.{Allowance}
 use Rattle.fp_relay_replies.specs.declared.cross_origin.Allowance.TheVariants.{Every, Only}
@@ -25,6 +25,11 @@ allowed origins None = None
 allowed origins (Some origin) = if lists origins (codes "*") then Some every
     else (if lists origins origin then Some (only origin) else None)
 
+-- what is allowed depends on the origin of who asks: some are listed, and no star
+abbrev pub are_told_apart : List (List ℕ) → Bool
+are_told_apart [] = false
+are_told_apart (first ∷ more) = not (lists (first ∷ more) (codes "*"))
+
 -- fields, and one more
 abbrev pub and_one : List Header → List ℕ → List ℕ → List Header
 and_one fields name value = fields ++ (name, value) ∷ []
@@ -38,8 +43,13 @@ abbrev pub and_allowing : List Header → Option Allowed → List Header
 and_allowing fields None = fields
 and_allowing fields (Some every) =
     and_exposing (and_one fields (codes "access-control-allow-origin") (codes "*"))
-and_allowing fields (Some (only origin)) = and_exposing (and_one
-    (and_one fields (codes "access-control-allow-origin") origin) (codes "vary") (codes "origin"))
+and_allowing fields (Some (only origin)) =
+    and_exposing (and_one fields (codes "access-control-allow-origin") origin)
+
+-- fields, and the one that tells caches where they depend on the origin of who asks
+abbrev pub and_varying : List Header → Bool → List Header
+and_varying fields true = and_one fields (codes "vary") (codes "origin")
+and_varying fields false = fields
 
 -- fields, and those that tell it what it may ask
 abbrev pub and_leave : List Header → List Header

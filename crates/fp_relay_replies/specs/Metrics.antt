@@ -47,14 +47,23 @@ and_connections text r = and_counter (and_counter (and_gauge text
     (codes "flagrelay_refused_total") (codes "Connections for which there was no place.")
     r.refused_total
 
+-- what was replied
+abbrev pub and_replies : List ℕ → Answered → List ℕ
+and_replies text a = and_status (and_status (and_status (and_status (and_status (and_status text
+    (codes "200") a.ok) (codes "204") a.no_content) (codes "304") a.not_modified)
+    (codes "400") a.bad_request) (codes "404") a.not_found) (codes "405") a.not_allowed
+
+-- what was refused before it was whole, or before there was a set
+abbrev pub and_refusals : List ℕ → Answered → List ℕ
+and_refusals text a = and_status (and_status (and_status (and_status (and_status text
+    (codes "413") a.too_long) (codes "414") a.target_too_long) (codes "431") a.head_too_long)
+    (codes "501") a.not_implemented) (codes "503") a.unavailable
+
 -- what was answered
 abbrev pub and_requests : List ℕ → Answered → List ℕ
-and_requests text a = and_status (and_status (and_status (and_status (and_status (and_status
-    (and_status (and_status (and_head text (codes "flagrelay_requests_total") (codes "counter")
-    (codes "Requests that were answered, by status."))
-    (codes "200") a.ok) (codes "204") a.no_content) (codes "304") a.not_modified)
-    (codes "400") a.bad_request) (codes "404") a.not_found) (codes "405") a.not_allowed)
-    (codes "413") a.too_long) (codes "503") a.unavailable
+and_requests text a = and_refusals (and_replies
+    (and_head text (codes "flagrelay_requests_total") (codes "counter")
+    (codes "Requests that were answered, by status.")) a) a
 
 -- what was evaluated and taken
 abbrev pub and_work : List ℕ → Report → List ℕ

@@ -6,7 +6,8 @@ ghost use Rattle.http_server.specs.Response.{IsResponse, fields_of};
 ghost use Rattle.http_header.specs.FieldValue.{is_visible_text};
 ghost use Rattle.std.specs.Prelude.{IsTrue};
 ghost use Rattle.fp_relay_replies.specs.CrossOrigin.{allowance_seen, allowed, and_allowing};
-ghost use Rattle.fp_relay_replies.specs.CrossOrigin.{and_exposing, and_leave, and_one, lists};
+ghost use Rattle.fp_relay_replies.specs.CrossOrigin.{and_exposing, and_leave, and_one};
+ghost use Rattle.fp_relay_replies.specs.CrossOrigin.{and_varying, are_told_apart, lists};
 
 use http::header::{self, HeaderName, HeaderValue};
 use http_server::Response;
@@ -67,6 +68,13 @@ impl Origins {
         }
     }
 
+    // Whether what is allowed depends on the origin of who asks: some are listed, and no `*`.
+    fn are_told_apart(&self) -> bool
+        ensures { result ≡ are_told_apart self.now }
+    {
+        !self.texts.is_empty() && !self.lists(EVERY.as_bytes())
+    }
+
     // Whether a text is among these.
     fn lists(&self, text: &[u8]) -> bool
         ensures { result ≡ lists self.now text.now }
@@ -80,8 +88,28 @@ impl Origins {
     }
 }
 
-/// Adds the fields that tell a page what is allowed to it.
-pub fn add_allowance(
+/// Adds the fields that tell a page what is allowed to it, and the one that tells caches whether
+/// another page may be told otherwise. It is there whoever asks, and also where nobody is named: a
+/// cache goes by it before it hands a reply to a page.
+pub fn tell_pages(
+    alloc: Global,
+    origins: &Origins,
+    allowance: Option<Allowance<'_>>,
+    response: &mut Response,
+) -> Result<(), AllocError>
+    ensures { OnOk result (IsResponse response.old.status (and_varying (and_allowing
+        (fields_of response.old) (option_map allowance_seen allowance.entry))
+        (are_told_apart origins.now)) response.old.body.items response.new) }
+{
+    add_allowance(alloc, allowance, response)?;
+    if origins.are_told_apart() {
+        return add(response, header::VARY, "origin");
+    }
+    Ok(())
+}
+
+// Adds the fields that tell a page what is allowed to it.
+fn add_allowance(
     alloc: Global,
     allowance: Option<Allowance<'_>>,
     response: &mut Response,
@@ -98,7 +126,6 @@ pub fn add_allowance(
         }
         Some(Allowance::Only(origin)) => {
             add_origin(alloc, origin, response)?;
-            add(response, header::VARY, "origin")?;
             add_exposing(response)
         }
     }

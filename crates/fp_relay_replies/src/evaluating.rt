@@ -12,11 +12,11 @@ ghost use Rattle.http.specs.Request.{head_of};
 ghost use Rattle.http_server.specs.Response.{IsBlank};
 ghost use Rattle.std.specs.Prelude.{option_map};
 
-use crate::cross_origin::{Allowance, Origins, add, add_allowance, add_leave};
+use crate::cross_origin::{Allowance, Origins, add, add_leave, tell_pages};
 use crate::spelling::spell;
 use bytes::Bytes;
 use fp_edit::FlagSet;
-use fp_ofrep::{Body, Reply, answer_over, route_of};
+use fp_ofrep::{Body, Moment, Reply, answer_over, field_list, route_of};
 use fp_shown::Shown;
 use http::header::{self, HeaderName};
 use http::{Request, StatusCode};
@@ -24,30 +24,33 @@ use http_server::Response;
 use std::alloc::{AllocError, Global};
 
 /// Fills the response to a request over what is shown, as a service of `http_server` does it. The
-/// moment is in seconds since 1970. `Err`: out of memory.
+/// moment is used up, so that none serves two requests. `Err`: out of memory.
 pub fn respond(
     alloc: Global,
     shown: Option<&Shown>,
     origins: &Origins,
     request: &Request<Bytes>,
-    now: u64,
+    moment: Moment,
     response: &mut Response,
 ) -> Result<(), AllocError>
-    // The moment is below 2^63.
-    requires moment { now < 2 ^ 63 }
     // Status 200, no field and no body.
     requires blank { IsBlank response.old }
-    // `Ok`: the reply of the protocol over what is shown, its fields in order and no other, and
-    // behind them what the request's origin is allowed; 503 with `retry-after: 1` where nothing is
-    // shown yet. 204 with what a page may ask, whether or not something is shown, exactly where a
-    // page that is allowed to asks `OPTIONS` at a path of the protocol.
+    // `Ok`: the reply of the protocol over what is shown, its fields in order and no other, behind
+    // them what the request's origin is allowed, and last `vary: origin`, exactly where origins are
+    // listed and no `*` is, whoever asks; 503 with `retry-after: 1` where nothing is shown yet. 204
+    // with what a page may ask, whether or not something is shown, exactly where a page that is
+    // allowed to asks `OPTIONS` at a path of the protocol.
     ensures { OnOk result (Responds (option_copied shown.entry) origins.now
-        (asked_by request.now) now response.new) }
+        (asked_by request.now) moment response.new) }
 {
+    let now = moment.seconds();
     let allowance = origins.allowance(first_value(request, header::ORIGIN));
     match shown {
-        Some(shown) => respond_over(alloc, shown.set(), request, allowance, now, response),
-        None => respond_without_set(alloc, request, allowance, response),
+        Some(shown) => {
+            let set = shown.set();
+            respond_over(alloc, set, origins, request, allowance, now, response)
+        }
+        None => respond_without_set(alloc, origins, request, allowance, response),
     }
 }
 
@@ -55,6 +58,7 @@ pub fn respond(
 fn respond_over(
     alloc: Global,
     set: &FlagSet,
+    origins: &Origins,
     request: &Request<Bytes>,
     allowance: Option<Allowance<'_>>,
     now: u64,
@@ -63,27 +67,28 @@ fn respond_over(
     requires moment { now < 2 ^ 63 }
     requires blank { IsBlank response.old }
     ensures { OnOk result (IsSent (and_allowed (answer_from_set set.now (asked_by request.now)
-        (option_map allowance_seen allowance.entry) now)
+        (option_map allowance_seen allowance.entry) now) origins.now
         (option_map allowance_seen allowance.entry)) response.new) }
 {
     fill(alloc, set, request, allowance, now, response)?;
-    add_allowance(alloc, allowance, response)
+    tell_pages(alloc, origins, allowance, response)
 }
 
 // The response where there is none.
 fn respond_without_set(
     alloc: Global,
+    origins: &Origins,
     request: &Request<Bytes>,
     allowance: Option<Allowance<'_>>,
     response: &mut Response,
 ) -> Result<(), AllocError>
     requires { IsBlank response.old }
     ensures { OnOk result (IsSent (and_allowed (answer_without_set (asked_by request.now)
-        (option_map allowance_seen allowance.entry))
+        (option_map allowance_seen allowance.entry)) origins.now
         (option_map allowance_seen allowance.entry)) response.new) }
 {
     fill_without_set(request, allowance, response)?;
-    add_allowance(alloc, allowance, response)
+    tell_pages(alloc, origins, allowance, response)
 }
 
 // There is nothing to answer from, but what a page may ask.
@@ -160,7 +165,8 @@ fn reply_over(
     requires { now < 2 ^ 63 }
     ensures { IfOk result (λ r. response_seen r ≡ reply_to set.now (asked_by request.now) now) }
 {
-    let tags = first_value(request, header::IF_NONE_MATCH);
+    let tags = field_list(alloc, request.headers().get_all(header::IF_NONE_MATCH))?;
+    let tags = tags.as_ref().map(|tags| tags.as_slice());
     let body = Body::Whole(request.body().as_slice());
     answer_over(
         alloc,

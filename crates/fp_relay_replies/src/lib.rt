@@ -10,5 +10,6 @@ mod status;
 
 pub use cross_origin::{Allowance, Origins};
 pub use evaluating::respond;
+pub use fp_ofrep::Moment;
 pub use origins::is_origin;
 pub use status::{Answered, Report, answer_status};

@@ -2,8 +2,9 @@
 
 ghost use Rattle.std.specs.Prelude.{◌≡◌, ◌++◌, IfOk, OnOk, decimal};
 ghost use Rattle.fp_relay_replies.specs.Metrics.{and_connections, and_counter, and_gauge, and_head};
-ghost use Rattle.fp_relay_replies.specs.Metrics.{and_requests, and_shown, and_status, and_value};
-ghost use Rattle.fp_relay_replies.specs.Metrics.{and_work, metrics_of};
+ghost use Rattle.fp_relay_replies.specs.Metrics.{and_refusals, and_replies, and_requests};
+ghost use Rattle.fp_relay_replies.specs.Metrics.{and_shown, and_status, and_value, and_work};
+ghost use Rattle.fp_relay_replies.specs.Metrics.{metrics_of};
 
 use crate::status::{Answered, Report};
 use itoa::Buffer;
@@ -72,13 +73,29 @@ fn add_requests(text: &mut Vec<u8>, answered: &Answered) -> Result<(), AllocErro
 {
     let help = "Requests that were answered, by status.";
     add_head(text, "flagrelay_requests_total", "counter", help)?;
+    add_replies(text, answered)?;
+    add_refusals(text, answered)
+}
+
+fn add_replies(text: &mut Vec<u8>, answered: &Answered) -> Result<(), AllocError>
+    ensures { OnOk result (text.new.items ≡ and_replies text.old.items answered.now) }
+{
     add_status(text, "200", answered.ok)?;
     add_status(text, "204", answered.no_content)?;
     add_status(text, "304", answered.not_modified)?;
     add_status(text, "400", answered.bad_request)?;
     add_status(text, "404", answered.not_found)?;
-    add_status(text, "405", answered.not_allowed)?;
+    add_status(text, "405", answered.not_allowed)
+}
+
+// What was refused before it was whole, or before there was a set.
+fn add_refusals(text: &mut Vec<u8>, answered: &Answered) -> Result<(), AllocError>
+    ensures { OnOk result (text.new.items ≡ and_refusals text.old.items answered.now) }
+{
     add_status(text, "413", answered.too_long)?;
+    add_status(text, "414", answered.target_too_long)?;
+    add_status(text, "431", answered.head_too_long)?;
+    add_status(text, "501", answered.not_implemented)?;
     add_status(text, "503", answered.unavailable)
 }
 

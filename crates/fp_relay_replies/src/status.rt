@@ -32,6 +32,12 @@ pub struct Answered {
     pub not_allowed: u64,
     /// With 413.
     pub too_long: u64,
+    /// With 414.
+    pub target_too_long: u64,
+    /// With 431.
+    pub head_too_long: u64,
+    /// With 501.
+    pub not_implemented: u64,
     /// With 503.
     pub unavailable: u64,
 }

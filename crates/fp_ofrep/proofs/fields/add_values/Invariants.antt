@@ -1,5 +1,5 @@
 use Rattle.std.proofs.Common.{◌≡◌, ◌++◌, codes, flat_map}
-use Rattle.fp_http.proofs.asked.add_values.Given as goal
+use Rattle.fp_ofrep.proofs.fields.add_values.Given as goal
 
 -- what is there, with what is left to add, stays the same
 abbrev pub invariant-loop-field : goal.invariant-loop-field
