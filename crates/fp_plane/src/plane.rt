@@ -2,8 +2,8 @@
 //!
 //! Who seals holds the hall's lock while it draws, settles and shows, and not while it calls the
 //! disk. The flusher has a condition of its own to sleep on, so that handing an edit in wakes
-//! nobody else. Editors sleep at the bell that the revision of their edit picks; subscribers, and
-//! who stops the plane, at one condition for all. Where memory is wanting, what is under way is
+//! nobody else. Editors sleep at the bell that the revision of their edit picks; subscribers at one
+//! condition for all. Where memory is wanting, what is under way is
 //! tried again after a millisecond, without the lock.
 
 ghost use Rattle.std.specs.Prelude.{◌≡◌, ◌≤◌, [], true, None, IfOk, IfErr, MatchResult};
@@ -43,7 +43,7 @@ pub(crate) struct Shared<K: Naming, R: Wait + Drop> {
     pub(crate) work: Condvar,
     // For editors: the edit of a revision was settled and shown, or the plane is over.
     pub(crate) bells: Bells,
-    // For subscribers, and for who stops the plane: something was shown, or the plane is over.
+    // For subscribers: something was shown, the plane is over, or it is looked who has left.
     pub(crate) news: Condvar,
 }
 
@@ -191,7 +191,8 @@ impl<K: Naming, R: Wait + Drop> Plane<K, R> {
     }
 
     /// Wakes the subscribers that wait, which are asked then whether they have left. So their
-    /// seats are free at once, and not within a second.
+    /// seats are free at once; one that was writing its frame then, or was just asked, may be asked
+    /// a second later.
     pub fn look_who_left(&self) {
         self.shared.hall.lock(&self.shared.rt).look();
         self.shared.news.notify_all();
@@ -200,7 +201,8 @@ impl<K: Naming, R: Wait + Drop> Plane<K, R> {
     // ---- the end
 
     /// Closes the hall: no edit is taken any more, what was taken goes on, and the flusher is
-    /// woken. To wake it wants the lock of a hall that was closed.
+    /// woken, and subscribers, which may go where sealing broke off before. To wake them wants the
+    /// lock of a hall that was closed.
     pub fn close(&self) {
         self.tell_closed(self.closed());
     }
@@ -215,13 +217,14 @@ impl<K: Naming, R: Wait + Drop> Plane<K, R> {
         hall
     }
 
-    // Lets go of the lock of a hall that was closed, and wakes the flusher.
+    // Lets go of the lock of a hall that was closed, and wakes the flusher and subscribers.
     fn tell_closed(&self, hall: MutexGuard<'_, Hall<K, R>>)
         requires stopped { hall.value.desk.stopped ≡ true }
         requires closing { hall.value.closing ≡ true }
     {
         drop(hall);
         self.shared.work.notify_all();
+        self.shared.news.notify_all();
     }
 }
 

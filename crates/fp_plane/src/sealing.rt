@@ -15,6 +15,10 @@
 //! the half's lock go: so the flusher, which is woken, finds that it is over, and ends. At its
 //! end it takes the half out of its place under the lock under which it ended the hall: an editor
 //! that comes later finds none, and a hall that takes no edit.
+//!
+//! An editor sleeps, under the hall's lock, where its edit isn't settled or not all that is settled
+//! is shown. Both are so at once but where memory is wanting to show it: then all up to what is
+//! shown at last are woken, and not the editors of that batch alone (`Plane::settle`).
 
 ghost use Rattle.std.specs.Prelude.{◌≡◌, ◌∷◌, [], is_err, IfOk, IfErr, IfSome};
 ghost use Rattle.fp_committer.specs.StoreHalf.{StoreHalfState};

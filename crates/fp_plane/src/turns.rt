@@ -140,11 +140,13 @@ impl<K: Naming, R: Wait + Clock + Log + Drop> Plane<K, R> {
                 // Who is woken wants the lock.
                 drop(hall);
                 half.rest();
-                let shown = match published {
-                    Ok(shown) => shown,
-                    Err(_) => self.publish(&told),
+                let (behind, shown) = match published {
+                    Ok(shown) => (before, shown),
+                    // Who looked meanwhile found that not all that is settled is shown, and sleeps, be
+                    // its own edit of an earlier batch.
+                    Err(_) => (0, self.publish(&told)),
                 };
-                self.tell(before, &shown);
+                self.tell(behind, &shown);
                 return (waiting, shown);
             }
             drop(hall);
