@@ -1,7 +1,7 @@
 //! Where connections that were let in go.
 
 use crate::inbox::Loops;
-use fp_connections::{Closed, Counts, Host, Listener, Role};
+use fp_connections::{Closed, Counts, Host, Listener, Role, took_one_of_the_last};
 use fp_news::News;
 use std::alloc::Global;
 use std::net::TcpStream;
@@ -22,7 +22,8 @@ pub struct Door<N: News + Drop> {
 
 impl<N: News + Drop> Door<N> {
     /// Lets connections in by this thread, until the listener is closed: each goes to a loop. Where
-    /// there are as many as there may be, a connection is closed without a byte.
+    /// there are as many as there may be, or it took one of the last descriptors that the program may
+    /// have, a connection is closed without a byte.
     pub fn accept<R: Host>(&self, rt: &R, listener: &Listener) -> Closed {
         let mut turn = 0u64;
         listener.accept_each(rt, |stream, _peer| {
@@ -33,7 +34,7 @@ impl<N: News + Drop> Door<N> {
 
     // Hands a connection on, or closes it.
     fn let_in<R: Wait>(&self, rt: &R, stream: TcpStream, turn: u64) {
-        if self.counts.open(self.role) >= self.most {
+        if self.counts.open(self.role) >= self.most || took_one_of_the_last(&stream) {
             self.counts.was_refused();
             return;
         }

@@ -15,9 +15,9 @@ pub(crate) fn mark_member<N: News + Drop>(
     let Some(member) = members.get_mut(key) else {
         return;
     };
-    let ends = event.is_read_closed() || event.is_error();
+    let is_cut = event.is_read_closed() || event.is_error() || event.is_priority();
     let writes = event.is_writable() || event.is_error();
-    member.socket().mark(event.is_readable(), writes, ends);
+    member.socket().mark(event.is_readable(), writes, is_cut);
     enqueue(queue, member, key);
 }
 

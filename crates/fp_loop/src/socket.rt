@@ -17,8 +17,9 @@ pub(crate) struct Socket {
     /// Whether what comes is read by parts, the last byte by itself: a request that is whole by that
     /// has nothing behind it.
     pub(crate) parts: bool,
-    // Whether the peer has ended its side, or it has failed: then a short read isn't the last.
-    ends: bool,
+    // Whether the peer has ended its side or sent a byte out of band, where a read stops, or it has
+    // failed: then a short read isn't the last.
+    is_cut: bool,
     // The last byte that came, until it is given.
     last: Option<u8>,
     // Whether a read may go on behind it.
@@ -33,18 +34,18 @@ impl Socket {
             may_read: false,
             may_write: true,
             parts: false,
-            ends: false,
+            is_cut: false,
             last: None,
             may_follow: false,
         }
     }
 
     /// What an event tells.
-    pub(crate) fn mark(&mut self, reads: bool, writes: bool, ends: bool) {
-        self.may_read = self.may_read || reads || ends;
-        self.may_follow = self.may_follow || reads || ends;
+    pub(crate) fn mark(&mut self, reads: bool, writes: bool, is_cut: bool) {
+        self.may_read = self.may_read || reads || is_cut;
+        self.may_follow = self.may_follow || reads || is_cut;
         self.may_write = self.may_write || writes;
-        self.ends = self.ends || ends;
+        self.is_cut = self.is_cut || is_cut;
     }
 
     /// Has what comes from now on be read by parts, or as a whole.
@@ -115,7 +116,7 @@ impl Read for Socket {
         match self.stream.read(buf) {
             // Less than there was room for is all that there is.
             Ok(count) => {
-                self.may_read = self.ends || count == buf.len();
+                self.may_read = self.is_cut || count == buf.len();
                 Ok(self.keep_last(&buf[..count]))
             }
             Err(fault) => {

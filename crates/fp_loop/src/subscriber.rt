@@ -46,13 +46,12 @@ impl<N: News + Drop> Subscriber<N> {
         ensures waits { result ≡ Waits → CanDoNothing self.new shown.now }
     {
         let heard = self.listen(now);
-        if heard == Turn::Over {
+        // Who says nothing more is sent what its socket takes at once.
+        let told = self.tell(shown, tally, now);
+        if heard == Turn::Over || told == Turn::Waits {
             return heard;
         }
-        match self.tell(shown, tally, now) {
-            Turn::Waits => heard,
-            told => told,
-        }
+        told
     }
 
     /// Sends what is left of the frame that is being sent, until it would wait or its turn is over.

@@ -2,32 +2,28 @@
 
 ghost use Rattle.std.specs.Prelude.{◌≡◌, ◌≢◌, ◌+◌, ◌<◌, ◌^◌, ◌⊎◌, [], IsSomeAnd, IsTrue};
 ghost use Rattle.std.specs.Prelude.{IfSome, IsFalse, None};
-ghost use Rattle.std.specs.Arc.{arc_value};
 ghost use Rattle.std.specs.Duration.{as_nanos};
-ghost use Rattle.fp_stream.specs.declared.hello.Hello.TheVariants.{Has};
-ghost use Rattle.fp_news.specs.Newest.{had, Rises};
 ghost use Rattle.slab.specs.Slab.{get};
 ghost use Rattle.fp_loop.specs.Members.{CanDoNothing};
 ghost use Rattle.fp_loop.specs.declared.turn.Turn.TheVariants.{Waits};
 
+mod handed_in;
+
 use crate::counting::Counting;
-use crate::inbox::{Handed, Inbox, Taken};
+use crate::inbox::Inbox;
 use crate::informed::Informed;
-use crate::member::{Kind, Member};
-use crate::peer::Peer;
-use crate::queue::{enqueue, mark_member, put};
-use crate::socket::Socket;
-use crate::subscriber::Subscriber;
+use crate::member::Member;
+use crate::queue::{mark_member, put};
 use crate::talk::Beginning;
 use crate::times::Limits;
 use crate::turn::Turn;
-use fp_connections::{Counts, Role, Tally};
+use fp_connections::{Counts, Tally};
 use fp_news::{Newest, News};
-use mio::{Events, Interest, Poll, Token, Waker};
+use mio::{Events, Poll, Token, Waker};
 use slab::Slab;
 use std::alloc::{AllocError, Global};
 use std::hash::RandomState;
-use std::net::{Net, TcpStream};
+use std::net::Net;
 use std::random::RandomSource;
 use std::sync::{Arc, Wait};
 use std::time::{Clock, Duration};
@@ -73,7 +69,7 @@ where
     S: Informed<N> + Drop,
     N: News + Drop,
 {
-    ghost use Rattle.fp_loop.specs.Courses.{KeepsOn, RunsOn, shown_by};
+    ghost use Rattle.fp_loop.specs.Courses.{KeepsOn, RunsOn};
 
     /// A loop with no connection and no news yet. Its service answers requests.
     pub fn new<R: Net + RandomSource>(
@@ -171,47 +167,6 @@ where
         self.sweep(now);
     }
 
-    // Does what was handed in asks for.
-    fn collect<R: Wait>(&mut self, rt: &R, now: u64)
-        ensures { RunsOn S.answers S.informs self.old self.new }
-    {
-        let taken = self.inbox.take(rt);
-        self.take_in(taken, now);
-    }
-
-    // Shows the news and begins the connections that were taken, or only stops where that is said.
-    fn take_in(&mut self, taken: Taken<N>, now: u64)
-        ensures on { RunsOn S.answers S.informs self.old self.new }
-        // What it shows then is no older than these news.
-        ensures shows { IsFalse taken.is_stopped
-            → Rises (had (λ n. N.shows (arc_value n.shown)) taken.news) (shown_by self.new) }
-    {
-        let Taken {
-            streams,
-            news,
-            is_stopped,
-        } = taken;
-        if is_stopped {
-            self.stop(now);
-            return;
-        }
-        if let Some(news) = news {
-            self.show(news);
-        }
-        self.begin_all(streams, now);
-    }
-
-    // From now on answers nothing, and lets what is being sent be taken.
-    fn stop(&mut self, now: u64)
-        ensures { KeepsOn self.old self.new }
-    {
-        if self.returns.is_some() {
-            return;
-        }
-        self.returns = Some(now.saturating_add(LAST));
-        self.enqueue_all(None);
-    }
-
     // Ends all connections where it was stopped, and nothing is being sent any more or the time for
     // that is over. Answers whether it did.
     fn end_if_over(&mut self, now: u64) -> bool
@@ -225,15 +180,6 @@ where
         }
         self.end();
         true
-    }
-
-    // Begins the connections that were handed in.
-    fn begin_all(&mut self, streams: Vec<(TcpStream, Role)>, now: u64)
-        ensures { KeepsOn self.old self.new }
-    {
-        for (stream, role) in streams {
-            self.begin(stream, role, now);
-        }
     }
 
     // For how long to wait where nothing is ready.
@@ -344,70 +290,6 @@ where
         if let Some(member) = self.members.try_remove(key) {
             self.counts.left(member.role());
         }
-    }
-
-    // From now on shows these news, if they are newer.
-    fn show(&mut self, news: Handed<N>)
-        ensures on { RunsOn S.answers S.informs self.old self.new }
-        ensures shows { Rises (Has (N.shows (arc_value news.shown)).revision) (shown_by self.new) }
-    {
-        let Handed { shown, told } = news;
-        if !self.shown.take(shown) {
-            return;
-        }
-        self.service.service.inform(told);
-        self.enqueue_all(Some(Role::Frames));
-    }
-
-    // Has each connection of this role, or of any, take its turn.
-    fn enqueue_all(&mut self, role: Option<Role>)
-        ensures { KeepsOn self.old self.new }
-    {
-        for key in 0..self.members.capacity() {
-            if let Some(member) = self.members.get_mut(key)
-                && role.is_none_or(|role| role == member.role())
-            {
-                enqueue(&mut self.queue, member, key);
-            }
-        }
-    }
-
-    // Begins a connection that was handed in.
-    fn begin(&mut self, stream: TcpStream, role: Role, now: u64)
-        ensures { KeepsOn self.old self.new }
-    {
-        if self.admit(stream, role, now).is_err() {
-            self.counts.left(role);
-        }
-    }
-
-    fn admit(&mut self, stream: TcpStream, role: Role, now: u64) -> io::Result<()>
-        ensures { KeepsOn self.old self.new }
-    {
-        // So there is room for a turn of each, and none is lost for want of memory.
-        let room = self.members.len().saturating_add(1);
-        self.queue.reserve(room)?;
-        let mut stream = mio::net::TcpStream::from_std(stream);
-        let key = self.members.vacant_key();
-        let both = Interest::READABLE | Interest::WRITABLE;
-        self.poll
-            .registry()
-            .register(&mut stream, Token(key), both)?;
-        let socket = Socket::new(stream);
-        let alloc = self.beginning.alloc;
-        let kind = match role {
-            Role::Requests => {
-                let peer = Peer::new(&self.beginning, socket, now);
-                Kind::Requests(Box::new(alloc, peer)?)
-            }
-            Role::Frames => Kind::Frames(Box::new(alloc, Subscriber::new(socket, now))?),
-        };
-        let member = Member {
-            kind,
-            is_queued: false,
-        };
-        self.members.insert(member)?;
-        Ok(())
     }
 
     // Ends those that kept the loop waiting for too long, and has those that are quiet let go of

@@ -72,8 +72,9 @@ impl Shelf {
         unreachable!()
     }
 
-    // Keeps a set, and tries again until a newer one is there.
+    // Keeps a set, and tries again until a newer one is there; where it is closed, for a last time.
     fn keep<R: Host, K: KeptFiles>(&self, rt: &R, files: &K, file: &KeptFile, set: &Set) {
+        let mut is_last = false;
         for _ in rt.forever() {
             let parts = parts_of(set.revision(), set.document());
             let Err(reason) = file.keep(files, &parts) else {
@@ -81,14 +82,16 @@ impl Shelf {
             };
             let path = file.path();
             tell_failure(rt, &Event::NotKept { path }, &reason);
-            if self.is_over(rt) {
+            let (has_newer, is_closed) = self.wait_again(rt);
+            if has_newer || is_last {
                 return;
             }
+            is_last = is_closed;
         }
     }
 
-    // Waits before it tries again; whether there is something newer, or it is closed.
-    fn is_over<R: Host>(&self, rt: &R) -> bool {
+    // Waits before it tries again; whether there is something newer, and whether it is closed.
+    fn wait_again<R: Host>(&self, rt: &R) -> (bool, bool) {
         let waiting = self.waiting.lock(rt);
         let most = Duration::from_secs(AGAIN);
         let (waiting, _waited) = self
@@ -96,6 +99,6 @@ impl Shelf {
             .wait_timeout_while(rt, waiting, most, |waiting| {
                 waiting.set.is_none() && !waiting.is_closed
             });
-        waiting.set.is_some() || waiting.is_closed
+        (waiting.set.is_some(), waiting.is_closed)
     }
 }
