@@ -31,7 +31,7 @@ pub trait KeptFiles: Drop {
     /// one that begins as a frame does. `Err` where it is anything else.
     fn may_replace(&self, path: &str) -> io::Result<()>;
 
-    /// Makes a file of these parts, in place of one that there may be, and syncs it.
+    /// Makes a new file of these parts, in place of one that there may be, and syncs it.
     fn write<'b>(&self, beside: &'b Beside, parts: &KeptParts<'_>) -> io::Result<Made<'b>>;
 
     /// Gives such a file the name of another, whose place it takes.
@@ -85,10 +85,12 @@ impl<R: Files<File = File> + Drop> KeptFiles for SystemFiles<R> {
     }
 
     fn write<'b>(&self, beside: &'b Beside, parts: &KeptParts<'_>) -> io::Result<Made<'b>> {
+        // What was left there goes first. So nothing is written through a link, or into a file that has
+        // another name too.
+        let _ = self.rt.remove_file(beside.path());
         let mut file = OpenOptions::new()
             .write(true)
-            .create(true)
-            .truncate(true)
+            .create_new(true)
             .open(&self.rt, beside.path())?;
         file.write_all(&parts.head)?;
         file.write_all(parts.document)?;

@@ -18,6 +18,10 @@ pub enum Event<'e> {
         port: &'e str,
         address: SocketAddrV4,
     },
+    /// A thread couldn't begin, or what it needs wasn't to be had.
+    NotStarted {
+        thread: &'e str,
+    },
     /// A kept frame was taken.
     Restored {
         revision: u64,
@@ -65,6 +69,7 @@ impl Event<'_> {
         match self {
             Event::Bound { .. } => "bound",
             Event::NotBound { .. } => "not-bound",
+            Event::NotStarted { .. } => "not-started",
             Event::Restored { .. } => "restored",
             Event::NotRestored { .. } => "not-restored",
             Event::SourceReached { .. } => "source-reached",
@@ -82,6 +87,7 @@ impl fmt::Display for Event<'_> {
         match self {
             Event::Bound { port, address } => write!(f, "port={port} address={address}"),
             Event::NotBound { port, address } => write!(f, "port={port} address={address}"),
+            Event::NotStarted { thread } => write!(f, "thread={thread}"),
             Event::Restored {
                 revision,
                 flags,

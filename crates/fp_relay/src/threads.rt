@@ -4,6 +4,7 @@ ghost use Rattle.std.specs.Prelude.{◌≡◌};
 ghost use Rattle.fp_stream.specs.Frames.{has_after};
 ghost use Rattle.fp_stream.specs.declared.hello.Hello.TheVariants.{Nothing};
 
+use crate::events::{Event, tell_failure};
 use crate::following::{Showing, follow_source};
 use crate::numbers::Numbers;
 use crate::ports::{Port, Ports};
@@ -83,10 +84,12 @@ impl Relaying {
             doors: Vec::new(alloc),
             threads: Vec::new(alloc),
         };
-        relaying.begin_loops(rt, Arc::new(alloc, options.origins)?)?;
-        relaying.begin_status(rt)?;
-        relaying.begin_source(rt, files, options.source, options.keep)?;
-        relaying.let_in(rt, ports, options.connections)?;
+        let origins = Arc::new(alloc, options.origins)?;
+        told(rt, "loop", relaying.begin_loops(rt, origins))?;
+        told(rt, "status", relaying.begin_status(rt))?;
+        let (source, keep) = (options.source, options.keep);
+        told(rt, "source", relaying.begin_source(rt, files, source, keep))?;
+        told(rt, "port", relaying.let_in(rt, ports, options.connections))?;
         Ok(relaying)
     }
 
@@ -231,6 +234,14 @@ impl Relaying {
     fn attend<R: Host>(&mut self, rt: &R, port: &Port, door: Door<Set>) -> io::Result<()> {
         Ok(self.doors.push(door.start(rt, port)?)?)
     }
+}
+
+// What begins a thread of this name. One that couldn't begin is told.
+fn told<R: Host>(rt: &R, thread: &str, begun: io::Result<()>) -> io::Result<()> {
+    if let Err(reason) = &begun {
+        tell_failure(rt, &Event::NotStarted { thread }, reason);
+    }
+    begun
 }
 
 fn join<R: Host>(rt: &R, thread: Option<JoinHandle<Ended>>) {
