@@ -37,7 +37,7 @@ pub enum WordsFault<'w> {
     Help(String),
     /// They are wrong, as this line tells.
     Words(String),
-    /// What stands for this argument is no four numbers and a port.
+    /// What stands for this argument is no four numbers and a port, or a source's port is 0.
     NoAddress {
         argument: &'static str,
         text: &'w str,
@@ -101,7 +101,7 @@ pub fn options_of<'w>(alloc: Global, words: &'w [&'w str]) -> Result<Options<'w>
         Ok(matches) => matches,
         Err(fault) => return Err(told(alloc, &fault)?),
     };
-    let source = address_of("SOURCE", matches.get_str("source").unwrap_or(""))?;
+    let source = source_of(matches.get_str("source").unwrap_or(""))?;
     let ofrep = address_of("OFREP", matches.get_str("ofrep").unwrap_or(""))?;
     let stream = address_at("--stream", matches.get_str("stream"))?;
     let status = address_at("--status", matches.get_str("status"))?;
@@ -192,7 +192,16 @@ fn address_of<'w>(argument: &'static str, text: &'w str) -> Result<SocketAddrV4,
     }
 }
 
-// The same, where there is one.
+// Where snapshots come from: nobody listens at port 0.
+fn source_of(text: &str) -> Result<SocketAddrV4, WordsFault<'_>> {
+    let argument = "SOURCE";
+    match address_of(argument, text)? {
+        address if address.port() == 0 => Err(WordsFault::NoAddress { argument, text }),
+        address => Ok(address),
+    }
+}
+
+// The same of an address that may be left out.
 fn address_at<'w>(
     argument: &'static str,
     text: Option<&'w str>,

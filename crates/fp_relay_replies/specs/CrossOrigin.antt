@@ -19,11 +19,15 @@ abbrev pub lists : List (List ℕ) → List ℕ → Bool
 lists [] text = false
 lists (listed ∷ more) text = bytes_eq listed text || lists more text
 
--- a star among the origins stands for every one
+-- what is allowed to this origin alone
+abbrev pub allowed_by_name : List (List ℕ) → Option (List ℕ) → Option Allowed
+allowed_by_name origins None = None
+allowed_by_name origins (Some origin) = if lists origins origin then Some (only origin) else None
+
+-- a star among the origins stands for every one, whoever asks: a cache may hand on what it is told
 abbrev pub allowed : List (List ℕ) → Option (List ℕ) → Option Allowed
-allowed origins None = None
-allowed origins (Some origin) = if lists origins (codes "*") then Some every
-    else (if lists origins origin then Some (only origin) else None)
+allowed origins asks = if lists origins (codes "*") then Some every
+    else allowed_by_name origins asks
 
 -- what is allowed depends on the origin of who asks: some are listed, and no star
 abbrev pub are_told_apart : List (List ℕ) → Bool
@@ -55,5 +59,6 @@ and_varying fields false = fields
 abbrev pub and_leave : List Header → List Header
 and_leave fields = and_one (and_one (and_one fields
     (codes "access-control-allow-methods") (codes "POST"))
-    (codes "access-control-allow-headers") (codes "content-type, if-none-match, authorization"))
+    (codes "access-control-allow-headers")
+    (codes "content-type, if-none-match, authorization, x-api-key"))
     (codes "access-control-max-age") (codes "86400")

@@ -51,20 +51,17 @@ impl Origins {
 
     /// What is allowed to the page that asks, by the `origin` that its request names.
     pub fn allowance<'o>(&self, origin: Option<&'o [u8]>) -> Option<Allowance<'o>>
-        // `Every` where a `*` is listed; else `Only` this origin exactly where it is listed, byte
-        // for byte; else, and where no origin is named, `None`.
+        // `Every` where a `*` is listed, whoever asks; else `Only` this origin exactly where it is
+        // listed, byte for byte; else, and where no origin is named, `None`.
         ensures { option_map allowance_seen result
             ≡ allowed self.now (option_copied origin.entry) }
     {
-        let Some(origin) = origin else {
-            return None;
-        };
         if self.lists(EVERY.as_bytes()) {
-            Some(Allowance::Every)
-        } else if self.lists(origin) {
-            Some(Allowance::Only(origin))
-        } else {
-            None
+            return Some(Allowance::Every);
+        }
+        match origin {
+            Some(origin) if self.lists(origin) => Some(Allowance::Only(origin)),
+            _ => None,
         }
     }
 
@@ -162,7 +159,7 @@ pub fn add_leave(response: &mut Response) -> Result<(), AllocError>
         (and_leave (fields_of response.old)) response.old.body.items response.new) }
 {
     add(response, header::ACCESS_CONTROL_ALLOW_METHODS, "POST")?;
-    let asked = "content-type, if-none-match, authorization";
+    let asked = "content-type, if-none-match, authorization, x-api-key";
     add(response, header::ACCESS_CONTROL_ALLOW_HEADERS, asked)?;
     add(response, header::ACCESS_CONTROL_MAX_AGE, "86400")
 }
