@@ -6,7 +6,7 @@ use mathlib.Core.List.{IsPrefix}
 use Rattle.std.proofs.lemmas.List.Elements.{All-push}
 use Rattle.std.specs.Io.KnownBytes.{Appends}
 use Rattle.fp_base.proofs.Known.{Appends-nil, Appends-more}
-use Rattle.fp_edit.specs.Edits.{Change, Proposal, change_in}
+use Rattle.fp_edit.specs.Edits.{Change, change_in}
 use Rattle.fp_group_commit.specs.Tokens.{FrontState, Identity, front_revision}
 use Rattle.fp_hall.specs.Places.{StandsAt}
 use Rattle.fp_hall.proofs.Halls.{begins_reaches}

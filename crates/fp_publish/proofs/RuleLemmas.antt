@@ -15,7 +15,7 @@ use Rattle.fp_publish.specs.declared.page.Page.{Page}
 prefix_on : (xs ys zs : List Change) → IsPrefix xs ys → IsPrefix ys zs → IsPrefix xs zs
 prefix_on xs ys zs p q = (p.0 ++ q.0, sym (append_assoc xs p.0 q.0) ∙ ap (λ (l : List Change). l ++ q.0) p.1 ∙ q.1)
 
-begins_on : (f g h : FrontState) → Begins f g → Begins g h → Begins f h
+pub begins_on : (f g h : FrontState) → Begins f g → Begins g h → Begins f h
 begins_on f g h p q = (p.0 ∙ q.0, prefix_on f.edits g.edits h.edits p.1 q.1)
 
 pub begins_self : (f : FrontState) → Begins f f

@@ -94,6 +94,13 @@ impl Handed {
         self.shown.revision()
     }
 
+    /// That its front was shown. It takes no memory.
+    pub fn shown(&self) -> Shown
+        ensures { result ≡ self.now }
+    {
+        self.shown.again()
+    }
+
     // The same once more. It shares the document.
     fn try_copy(&self) -> Result<Handed, AllocError>
         ensures { IfOk result (λ h. h ≡ self.now) }

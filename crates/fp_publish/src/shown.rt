@@ -67,9 +67,11 @@ impl Shown {
         self.front.again()
     }
 
-    // Whether this is behind the other. Where it isn't, it goes on from it.
-    pub(crate) fn is_behind(&self, other: &Shown) -> bool
+    /// Whether this is behind the other. Where it isn't, it goes on from it.
+    pub fn is_behind(&self, other: &Shown) -> bool
+        // Both are of one store.
         requires { self.now.store ≡ other.now.store }
+        // The edits of the one that is behind are the first of the other's.
         ensures { MatchBool result
             (IsPrefix self.now.edits other.now.edits
             × (length self.now.edits < length other.now.edits))
