@@ -230,6 +230,13 @@ module _ {D R W : Type 0} (disk : Ghosts D) (remaining : R → Option (List ℕ)
         (course_keeps disk only_now s.half k.half first.exit course) k.half.store refl),
   )
 
+  -- and where memory was wanting the disk didn't fail
+  ran-wants : (f : ApplyFault) → Course f → of_run f ≡ command.Memory → disk.faults d1 ≡ disk.faults d0
+  ran-wants Device went is = absurd cc
+  ran-wants Memory went is = ap disk.faults here ∙ went.no_failure ∙ well
+  ran-wants StoreFailed c is = absurd cc
+  ran-wants CommitMemory c is = ap disk.faults here ∙ c.failed.cause (c.led.ready ready) ∙ c.led.no_failure ∙ well
+
   -- what failed
   ran-blamed : (f : ApplyFault) → Course f → plane.Blames {A = Bool} (failures old) (failures new) (Err f) →
       BlamesRun {A = Bool} (disk.faults d0 + failures old) (disk.faults d1 + failures new) (Err (of_run f))
@@ -281,6 +288,7 @@ module _ {D R W : Type 0} (disk : Ghosts D) (remaining : R → Option (List ℕ)
     only_read = tt;
     unread = tt;
     cause = tt;
+    memory = tt;
     device = let same = p.course.no_failure in let at = ap disk.faults here in omega (arith, blames, same, at, well);
     read = tt;
     no_failure = ap disk.faults here ∙ p.course.no_failure ∙ well;
@@ -309,6 +317,7 @@ module _ {D R W : Type 0} (disk : Ghosts D) (remaining : R → Option (List ℕ)
     only_read = refused-run (IsOnlyRead disk d0 d1) f;
     unread = file_refused-run (new.reader ≡ old.reader) f;
     cause = ran-cause p.any_moment f p.course;
+    memory = ran-wants f p.course;
     device = ran-blamed f p.course blames;
     read = λ not. calm f refl (λ is. not (ap of_run is));
     no_failure = tt;

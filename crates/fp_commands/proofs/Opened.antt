@@ -16,7 +16,7 @@ use Rattle.fp_session.specs.Asks.{Ask}
 use Rattle.fp_commands.specs.Disks.{BlamesRun, IfFileRefused, IsLeftOnDisk, IsOnlyRead, opening_calls}
 use Rattle.fp_commands.specs.Files.{Environment, OnFile, OverFile, RunsOnDisk, Streams, failures, streams_of}
 use Rattle.fp_commands.specs.declared.fault.CommandFault.{CommandFault}
-use Rattle.fp_commands.specs.declared.fault.CommandFault.TheVariants.{Device, StoreFailed}
+use Rattle.fp_commands.specs.declared.fault.CommandFault.TheVariants.{Device, Memory, StoreFailed}
 use Rattle.fp_commands.proofs.Told.{if_refused}
 
 -- what opening leaves, whether it ends well
@@ -36,9 +36,9 @@ pub unbegun : {D R W : Type 0} (disk : DiskGhosts D) (remaining : R → Option (
     → new.writer ≡ old.writer → (disk.honest d0 → StandsForNone (disk.bytes d0) → new.reader ≡ old.reader) →
     IfFileRefused (new.reader ≡ old.reader) f
     → BlamesRun {A = Bool} (disk.faults d0 + failures old) (disk.faults d1 + failures new) (Err f) →
-    (f ≢ Device → new.reader.failures ≡ old.reader.failures)
+    (f ≢ Device → new.reader.failures ≡ old.reader.failures) → (f ≡ Memory → disk.faults d1 ≡ disk.faults d0)
     → RunsOnDisk disk remaining contents Reads most MayEnd old new d0 d1 (Err f)
-unbegun disk remaining contents Reads most MayEnd old new d0 d1 f only honest not ends unwritten none_read unread blames calm =
+unbegun disk remaining contents Reads most MayEnd old new d0 d1 f only honest not ends unwritten none_read unread blames calm wants =
     let left = remaining old.reader.inner in record {
       run = tt;
       called = inl only.called;
@@ -55,6 +55,7 @@ unbegun disk remaining contents Reads most MayEnd old new d0 d1 f only honest no
       only_read = if_refused (IsOnlyRead disk d0 d1) f only;
       unread = unread;
       cause = λ is. absurd (not is);
+      memory = wants;
       device = blames;
       read = calm;
       no_failure = tt;

@@ -32,7 +32,7 @@ use Rattle.fp_commands.specs.Faults.{of_run}
 use Rattle.fp_commands.specs.Task.{Task, apply, init, apply_file, show, import, eval, no_flags}
 use Rattle.fp_commands.specs.declared.fault.CommandFault.{CommandFault}
 use Rattle.fp_commands.specs.declared.fault.CommandFault.TheVariants.{Device, NotEmpty}
-use Rattle.fp_commands.specs.declared.fault.CommandFault.TheVariants.{StoreFailed}
+use Rattle.fp_commands.specs.declared.fault.CommandFault.TheVariants.{Memory, StoreFailed}
 
 -- what a command reads from and writes to, at a moment
 pub record Streams (R W : Type 0) : Type 0 where
@@ -174,6 +174,8 @@ pub record RunsOnDisk {R W D : Type 0} (disk : DiskGhosts D) (remaining : R
       (disk.bytes before)
       (disk.unsynced after) (remaining old.reader.inner) Reads
       ⊎ (disk.faults before < disk.faults after))
+  -- `Memory`: no call of the disk failed.
+  pub memory : IfErr outcome (λ f. f ≡ Memory → disk.faults after ≡ disk.faults before)
   -- `Device` only where the disk, the reader or the writer failed, and `Ok` only where none did.
   pub device : BlamesRun (disk.faults before + failures old) (disk.faults after + failures new)
       outcome

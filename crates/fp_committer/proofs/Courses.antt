@@ -279,6 +279,19 @@ module _ {D : Type 0} (disk : Ghosts D) where
         };
       })
 
+    -- where there was room its calls were the four alone
+    pub alone_by : b ≡ a → Reaches disk (Write ∷ []) batch_staged b c → (r : Result (Unit {0}) CommitFault) →
+        OnOk r (Reaches disk (Sync ∷ Write ∷ Sync ∷ []) batch_sealed c d) → OnOk r (Reaches disk batch_calls batch_sealed a d)
+    alone_by same wrote (Ok x) made = subst (λ (z : StoreHalfState D). Reaches disk batch_calls batch_sealed z d) same (record {
+      progress = made.progress;
+      well = made.well;
+      no_failure = made.no_failure ∙ wrote.no_failure;
+      next = made.next ∙ wrote.next;
+      called = made.called ∙ ap (λ (l : List CallKind). l ++ Sync ∷ Write ∷ Sync ∷ []) wrote.called ∙
+          append_assoc (disk.calls b.store.disk) (Write ∷ []) (Sync ∷ Write ∷ Sync ∷ []);
+    })
+    alone_by same wrote (Err e) made = tt
+
     -- where the last of its calls were made
     pub whole_by : Reaches disk (Write ∷ []) batch_staged b c → (r : Result (Unit {0}) CommitFault) →
         OnOk r (Reaches disk (Sync ∷ Write ∷ Sync ∷ []) batch_sealed c d) → OnOk r (GoesWell disk a.store d.store)

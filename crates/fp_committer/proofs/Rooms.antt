@@ -87,7 +87,7 @@ module _ {D : Type 0} (disk : Ghosts D) where
   halts_then a b c f h k = record {
     stays = stays_then a b c h.stays k.stays;
     works = breaks_on disk a b c h.works k.works;
-    cause = λ is. (let more = k.cause is in let same = h.no_failure in omega (arith, more, same));
+    cause = λ is. (let more = (k.cause is).1 in let same = h.no_failure in ((k.cause is).0, omega (arith, more, same)));
     memory = λ is. ((k.memory is).0, (k.memory is).1 ∙ h.no_failure);
   }
 
@@ -112,6 +112,12 @@ module _ {D : Type 0} (disk : Ghosts D) where
     calls = subst (λ l. MakesSome (calls_of a.compaction.next a.may_open) l (disk.calls b.disk))
         (sym (append-nil (disk.calls a.disk))) calls;
   }
+
+-- where there was room none was taken
+pub none_then : {D : Type 0} (P : StoreState D → Type 0) (said : Bool) (a b c : StoreState D) → (P a → b ≡ a) → (IsTrue said ↔ P b) →
+    said ≡ false → P a → c ≡ a
+none_then P said a b c same says not there =
+    let both : false ≡ true = sym not ∙ says.1 (subst P (sym (same there)) there) in absurd cc
 
 -- ---- how many are left
 -- before none runs again, at most: a new one writes so many bytes of head and image
@@ -150,6 +156,30 @@ falls faults a b store c =
     b.compaction.left (IMAGE_PLACE + b.store.start.limit) < work_left a) (sym c.next)
     (subst (λ (m : ℕ). (2 ^ 64 - b.compaction.generation) * (m + 9) + steps_left
     (next_step a.compaction.next a.compaction.left) b.compaction.left m < work_left a) (sym limit) fell)
+
+-- ---- how many compactions ended
+-- where one ran it runs still, or it came to its end
+pub record RanOn {D : Type 0} (a b : StoreState D) : Type 0 where
+  pub none : a.compaction.next ≡ Begin → b ≡ a
+  pub runs : a.compaction.next ≢ Begin → b.compaction.next ≢ Begin → b.compaction.generation ≡ a.compaction.generation
+  pub ended : a.compaction.next ≢ Begin → b.compaction.next ≡ Begin → b.compaction.generation ≡ a.compaction.generation + 1
+
+pub ran_none : {D : Type 0} (a : StoreState D) → RanOn a a
+ran_none a = record { none = λ at. refl; runs = λ on more. refl; ended = λ on at. absurd (on at) }
+
+ran_by : (p : Step) (left g h k : ℕ) → p ≢ Begin → (p ≢ SyncOpen → h ≡ g) → (p ≡ SyncOpen → h ≡ g + 1) → g ≡ k
+    → (next_step p left ≢ Begin → h ≡ k) × (next_step p left ≡ Begin → h ≡ k + 1)
+ran_by p left g h k on stays turned same = grind arith
+
+pub ran_then : {D : Type 0} (faults : D → ℕ) (a b c : StoreState D) → RanOn a b → b.compaction.next ≢ Begin → Compacts faults b c → RanOn a c
+ran_then faults a b c ran on step =
+    let begins = λ (at : a.compaction.next ≡ Begin). on (ap (λ (s : StoreState _). s.compaction.next) (ran.none at) ∙ at) in
+    let by = λ (runs : a.compaction.next ≢ Begin). ran_by b.compaction.next b.compaction.left b.compaction.generation c.compaction.generation
+    a.compaction.generation on (λ not. (step.slots_stay not).1) (λ at. (step.slots_turn at).1) (ran.runs runs on) in record {
+      none = λ at. absurd (begins at);
+      runs = λ runs more. (by runs).0 (λ at. more (step.next ∙ at));
+      ended = λ runs at. (by runs).1 (sym step.next ∙ at);
+    }
 
 -- ---- where a step may not be taken
 -- none runs, and no generation is left

@@ -41,15 +41,16 @@ module _ (May : Way → Type 0) (to : Progress) where
   pub went : (a : Answer) (old new : Way) → a ≡ answer.Done → Advances May to old a new → new ≡ record old { progress = to }
   went a old new is does = (subst (λ (x : Answer). Advances May to old x new) is does).2
 
-  -- where it was due and wasn't done, the device failed
+  -- where it was due and wasn't done, the device failed, and so the store
   pub broke : (kind : CallKind) (a : Answer) (old new : Way) (before now : ℕ) (calls more : List CallKind) →
       a ≢ answer.Done → Advances May to old a new → old.failed ≡ false → May old → RisesFor a before now →
       MakesOne kind a calls more
-      → (before < now) × MakesSome (kind ∷ []) calls more
+      → ((new.failed ≡ true) × (before < now)) × MakesSome (kind ∷ []) calls more
   broke kind answer.NotNow old new before now calls more not does well may rises made = absurd (does.1 may)
   broke kind answer.Memory old new before now calls more not does well may rises made = absurd does
   broke kind (answer.Refused f) old new before now calls more not does well may rises made = absurd does
-  broke kind (answer.Fault fault.Device) old new before now calls more not does well may rises made = (rises, made)
+  broke kind (answer.Fault fault.Device) old new before now calls more not does well may rises made =
+      ((ap (λ (w : Way). w.failed) does.2, rises), made)
   broke kind (answer.Fault fault.Failed) old new before now calls more not does well may rises made =
       let both : true ≡ false = sym does.0 ∙ well in absurd cc
   broke kind (answer.Fault fault.Memory) old new before now calls more not does well may rises made = absurd does
@@ -74,11 +75,12 @@ module _ (t : Taken) where
   pub unsealed : (a : Answer) (old new : Way) (before now : ℕ) (calls more : List CallKind) →
       ((n : ℕ) → a ≢ answer.Sealed n) → Seals t old a new → old.failed ≡ false → old.progress ≡ gate_opened →
       RisesFor a before now → MakesOne Sync a calls more
-      → (before < now) × MakesSome (Sync ∷ []) calls more
+      → ((new.failed ≡ true) × (before < now)) × MakesSome (Sync ∷ []) calls more
   unsealed answer.NotNow old new before now calls more not does well may rises made = absurd (does.1 may)
   unsealed answer.Memory old new before now calls more not does well may rises made = absurd does
   unsealed (answer.Refused f) old new before now calls more not does well may rises made = absurd does
-  unsealed (answer.Fault fault.Device) old new before now calls more not does well may rises made = (rises, made)
+  unsealed (answer.Fault fault.Device) old new before now calls more not does well may rises made =
+      ((ap (λ (w : Way). w.failed) does.2, rises), made)
   unsealed (answer.Fault fault.Failed) old new before now calls more not does well may rises made =
       let both : true ≡ false = sym does.0 ∙ well in absurd cc
   unsealed (answer.Fault fault.Memory) old new before now calls more not does well may rises made = absurd does

@@ -152,19 +152,21 @@ pub can_stage : {D : Type 0} (group : Group) (s : StoreState D) (l : List Change
 can_stage group s l r = record
     { drawn = refl; few = r.few; short = r.short; room = r.fits; early = r.early; allowed = r.allowed; tail = r.tail }
 
+pub has_room : {D : Type 0} (group : Group) (s : StoreState D) (l : List Change) → group.changes ≢ [] →
+    CanStage (Given (held.Drawn group) s l) (At (held.Drawn group) s) → HasRoom s group
+has_room group s l some can = record {
+  some = some_in group.changes some;
+  few = can.few;
+  short = can.short;
+  fits = can.room;
+  early = can.early;
+  tail = can.tail;
+  allowed = can.allowed;
+}
+
 pub cannot_stage : {D : Type 0} (group : Group) (s : StoreState D) (l : List Change) → group.changes ≢ [] →
     (HasRoom s group → ⊥) → CanStage (Given (held.Drawn group) s l) (At (held.Drawn group) s) → ⊥
-cannot_stage group s l some never can =
-    never (record {
-      some = some_in group.changes some;
-      few = can.few;
-      short = can.short;
-      fits = can.room;
-      early =
-          can.early;
-      tail = can.tail;
-      allowed = can.allowed;
-    })
+cannot_stage group s l some never can = never (has_room group s l some can)
 
 pub none_held : {D : Type 0} (h : Held) (s : StoreState D) (t : Taken) →
     ((group : Group) → h ≡ held.Drawn group → ⊥) → CanStage t (At h s) → ⊥

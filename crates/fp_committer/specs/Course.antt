@@ -1,5 +1,5 @@
 -- How the store's half goes on, and what any moment of that leaves.
-use Rattle.std.specs.Prelude.{◌≡◌, ◌⊎◌, ◌<◌, ◌≤◌, ◌+◌, ◌^◌, ℕ, List, [], ◌∷◌, ◌++◌, false, length}
+use Rattle.std.specs.Prelude.{◌≡◌, ◌⊎◌, ◌<◌, ◌≤◌, ◌+◌, ◌^◌, ℕ, List, [], ◌∷◌, ◌++◌, true, false, length}
 use mathlib.Core.List.{IsPrefix}
 use Rattle.fp_disk.specs.Crashes.{AtAnyMoment, EachCrash, SameHonesty}
 use Rattle.fp_disk.specs.Outcomes.{IsOutcome}
@@ -72,9 +72,9 @@ pub record Reaches {D : Type 0} (disk : Ghosts D) (calls : List CallKind) (to : 
   pub next : b.store.compaction.next ≡ a.store.compaction.next
   pub called : disk.calls b.store.disk ≡ disk.calls a.store.disk ++ calls
 
--- why it broke off: the device failed; want of memory leaves the store well
+-- why it broke off: the device failed, and so the store; want of memory leaves it well
 abbrev pub FailsBy : {D : Type 0} → Ghosts D → StoreState D → StoreState D → CommitFault → Type 0
-FailsBy disk a b StoreFailed = disk.faults a.disk < disk.faults b.disk
+FailsBy disk a b StoreFailed = (b.failed ≡ true) × (disk.faults a.disk < disk.faults b.disk)
 FailsBy disk a b Memory = (b.failed ≡ false) × (disk.faults b.disk ≡ disk.faults a.disk)
 
 -- whatever a crash leaves has no room for what is drawn, in a generation that none follows

@@ -1,5 +1,5 @@
 -- Steps of a compaction, as a store at rest takes them.
-use Rattle.std.specs.Prelude.{◌≡◌, ◌≢◌, ◌⊎◌, ◌<◌, ◌/◌, false}
+use Rattle.std.specs.Prelude.{◌≡◌, ◌≢◌, ◌⊎◌, ◌<◌, ◌+◌, ◌/◌, true, false}
 use Rattle.fp_disk.specs.Crashes.{AtAnyMoment, EachCrash, SameHonesty}
 use Rattle.fp_disk.specs.declared.disk.Disk.{Ghosts}
 use Rattle.fp_recovery.specs.Stands.{StandsFor}
@@ -33,7 +33,7 @@ pub record Halts {D : Type 0} (disk : Ghosts D) (a b : StoreState D)
     (f : CommitFault) : Type 0 where
   pub stays : StaysAt disk a b
   pub works : BreaksOff disk a b
-  pub cause : f ≡ StoreFailed → disk.faults a.disk < disk.faults b.disk
+  pub cause : f ≡ StoreFailed → (b.failed ≡ true) × (disk.faults a.disk < disk.faults b.disk)
   pub memory : f ≡ Memory → (b.failed ≡ false) × (disk.faults b.disk ≡ disk.faults a.disk)
 
 -- a step is due: a compaction runs, or one may begin, where less than a quarter of a slot is left
@@ -41,6 +41,11 @@ pub record Halts {D : Type 0} (disk : Ghosts D) (a b : StoreState D)
 abbrev pub IsDue : {D : Type 0} → StoreState D → Type 0
 IsDue s = (s.compaction.next ≢ Begin) ⊎ (MayCompact s
     × ((s.room < s.store.start.limit / 2) ⊎ (s.compaction.version < VERSION)))
+
+-- a compaction that ran came to its end, and no other: the generation is the next one
+abbrev pub EndsOne : {D : Type 0} → StoreState D → StoreState D → Type 0
+EndsOne a b = a.compaction.next ≢ Begin
+    → b.compaction.generation ≡ a.compaction.generation + 1
 
 -- memory was wanting for one to begin, and nothing changed
 abbrev pub BeginsNone : {D : Type 0} → StoreState D → StoreState D → Type 0

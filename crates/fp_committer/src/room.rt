@@ -10,7 +10,7 @@ ghost use Rattle.fp_slots.specs.declared.slots.Step.TheVariants.{Begin};
 ghost use Rattle.fp_group_commit.specs.Calls.{Compacts};
 ghost use Rattle.fp_group_commit.specs.Changes.{HasRoom};
 ghost use Rattle.fp_group_commit.specs.Store.{IsAtRest, MayCompact, sealed_set};
-ghost use Rattle.fp_committer.specs.Room.{BeginsNone, Halts, IsDue, Proceeds};
+ghost use Rattle.fp_committer.specs.Room.{BeginsNone, EndsOne, Halts, IsDue, Proceeds};
 ghost use Rattle.fp_committer.specs.declared.fault.CommitFault.TheVariants.{Memory, StoreFailed};
 
 use crate::fault::CommitFault;
@@ -36,13 +36,15 @@ fn take_step<D: Disk>(store: &mut Store<D>) -> Result<(), CommitFault>
     }
 }
 
-/// Takes steps until there is room for the draw. Where no generation is left for them it gives up.
+/// Takes steps until there is room for the draw: none where there is. Where no generation is left
+/// for them it gives up.
 pub(crate) fn make_room<D: Disk>(store: &mut Store<D>, draw: &Draw) -> Result<(), CommitFault>
     requires rest { IsAtRest store.old }
     requires keeps { EachCrash D.Disk store.old.disk (λ c. StandsFor c (sealed_set store.old)) }
     requires some { 0 < length draw.now.changes }
     requires few { length draw.now.changes ≤ MOST_EDITS }
     ensures room { OnOk result (HasRoom store.new draw.now) }
+    ensures none { HasRoom store.old draw.now → store.new ≡ store.old }
     ensures proceeds { OnOk result (Proceeds D.Disk store.old store.new) }
     ensures halts { IfErr result (λ f. Halts D.Disk store.old store.new f
         ⊎ ((f ≡ StoreFailed) × Proceeds D.Disk store.old store.new
@@ -94,6 +96,8 @@ pub(crate) fn finish<D: Disk>(store: &mut Store<D>) -> Result<(), CommitFault>
     requires rest { IsAtRest store.old }
     requires keeps { EachCrash D.Disk store.old.disk (λ c. StandsFor c (sealed_set store.old)) }
     ensures none_runs { OnOk result (store.new.compaction.next ≡ Begin) }
+    ensures none { store.old.compaction.next ≡ Begin → store.new ≡ store.old }
+    ensures one { OnOk result (EndsOne store.old store.new) }
     ensures proceeds { OnOk result (Proceeds D.Disk store.old store.new) }
     ensures halts { IfErr result (Halts D.Disk store.old store.new) }
 {

@@ -7,11 +7,11 @@ ghost use Rattle.fp_disk.specs.declared.history.CallKind.TheVariants.{Sync, Writ
 ghost use Rattle.fp_slots.specs.declared.slots.Step.TheVariants.{Begin};
 ghost use Rattle.fp_group_commit.specs.Calls.{Compacts};
 ghost use Rattle.fp_committer.specs.Course.{CallsOn, GoesWell, HasCause, FailsBy, Reaches};
-ghost use Rattle.fp_committer.specs.Room.{BeginsNone, IsDue};
+ghost use Rattle.fp_committer.specs.Room.{BeginsNone, EndsOne, IsDue};
 ghost use Rattle.fp_committer.specs.StoreHalf.{taken_by, way_by};
 ghost use Rattle.fp_committer.specs.Way.{CanStage, batch_drawn, batch_staged, batch_sealed};
 ghost use Rattle.fp_committer.specs.Way.{nothing_drawn};
-ghost use Rattle.fp_committer.specs.Works.{BreaksOff};
+ghost use Rattle.fp_committer.specs.Works.{BreaksOff, batch_calls};
 ghost use Rattle.fp_committer.specs.declared.fault.CommitFault.TheVariants.{Memory, StoreFailed};
 
 use crate::event::Answer;
@@ -35,14 +35,18 @@ impl<D: Disk> StoreHalf<D> {
         ensures kept { CallsOn D.Disk self.old self.new }
         // `Ok`: what was drawn is sealed.
         ensures sealed { OnOk result (self.new.progress ≡ batch_sealed) }
+        // `Ok`, where there was room for it: its four calls were made and no other, and a
+        // compaction stays where it is.
+        ensures alone { CanStage (taken_by self.old) (way_by self.old)
+            → OnOk result (Reaches D.Disk batch_calls batch_sealed self.old self.new) }
         // `Ok`: no call of the disk failed, and the calls were those of whole works: steps of a
         // compaction, and batches (write, sync, write, sync).
         ensures well { OnOk result (GoesWell D.Disk self.old.store self.new.store) }
         // `Memory`: it is drawn still.
         ensures later { IfErr result (λ f. f ≡ Memory → self.new.progress ≡ batch_drawn) }
-        // `StoreFailed` only where a call of the disk failed, or where no generation is left to
-        // make room for what is drawn, and H: no crash state has room for it. `Memory`: the store
-        // is well, and no call failed.
+        // `StoreFailed` only where a call of the disk failed, and so the store, or where no
+        // generation is left to make room for what is drawn, and H: no crash state has room for
+        // it. `Memory`: the store is well, and no call failed.
         ensures cause { IfErr result (HasCause D.Disk self.old self.new) }
         // `Err`: the calls were those of whole works, and some first ones of one more.
         ensures called { OnErr result (BreaksOff D.Disk self.old.store self.new.store) }
@@ -59,6 +63,7 @@ impl<D: Disk> StoreHalf<D> {
         ensures kept { CallsOn D.Disk self.old self.new }
         ensures still { self.new.progress ≡ batch_drawn }
         ensures room { OnOk result (CanStage (taken_by self.new) (way_by self.new)) }
+        ensures none { CanStage (taken_by self.old) (way_by self.old) → self.new ≡ self.old }
         ensures well { OnOk result (GoesWell D.Disk self.old.store self.new.store) }
         ensures cause { IfErr result (HasCause D.Disk self.old self.new) }
         ensures called { OnErr result (BreaksOff D.Disk self.old.store self.new.store) }
@@ -126,8 +131,8 @@ impl<D: Disk> StoreHalf<D> {
         // `Ok`: no call of the disk failed, and the calls were those of whole works, as of
         // `seal`.
         ensures well { OnOk result (GoesWell D.Disk self.old.store self.new.store) }
-        // `StoreFailed` only where a call of the disk failed. `Memory`: the store is well, and no
-        // call failed.
+        // `StoreFailed` only where a call of the disk failed, and so the store. `Memory`: it is
+        // well, and no call failed.
         ensures cause { IfErr result (FailsBy D.Disk self.old.store self.new.store) }
         // `Err`: the calls were those of whole works, and some first ones of one more.
         ensures called { OnErr result (BreaksOff D.Disk self.old.store self.new.store) }
@@ -158,11 +163,15 @@ impl<D: Disk> StoreHalf<D> {
         ensures still { self.new.progress ≡ nothing_drawn }
         // `Ok`: no compaction runs.
         ensures none_runs { OnOk result (self.new.store.compaction.next ≡ Begin) }
+        // Where none ran the store is as before.
+        ensures none { self.old.store.compaction.next ≡ Begin → self.new.store ≡ self.old.store }
+        // `Ok`: no other was begun. Where one ran the generation is the next one.
+        ensures one { OnOk result (EndsOne self.old.store self.new.store) }
         // `Ok`: no call of the disk failed, and the calls were those of whole works, as of
         // `seal`.
         ensures well { OnOk result (GoesWell D.Disk self.old.store self.new.store) }
-        // `StoreFailed` only where a call of the disk failed. `Memory`: the store is well, and no
-        // call failed.
+        // `StoreFailed` only where a call of the disk failed, and so the store. `Memory`: it is
+        // well, and no call failed.
         ensures cause { IfErr result (FailsBy D.Disk self.old.store self.new.store) }
         // `Err`: the calls were those of whole works, and some first ones of one more.
         ensures called { OnErr result (BreaksOff D.Disk self.old.store self.new.store) }

@@ -25,7 +25,7 @@ use Rattle.fp_committer.specs.StoreHalf.{KeptBy, StoreHalfState}
 use Rattle.fp_committer.specs.Works.{BreaksOff}
 use Rattle.fp_committer.specs.WorksLaws.{works_break}
 use Rattle.fp_committer.specs.declared.fault.CommitFault.{CommitFault}
-use Rattle.fp_committer.specs.declared.fault.CommitFault.TheVariants.{StoreFailed}
+use Rattle.fp_committer.specs.declared.fault.CommitFault.TheVariants.{Memory, StoreFailed}
 use Rattle.fp_committer.proofs.Courses.{course_calls, course_lists, drawn_lists, settled_lists}
 use Rattle.fp_committer.proofs.Keeps.{told_kept}
 use Rattle.fp_committer.proofs.Moments.{honest_on, next_moment, weaker}
@@ -216,9 +216,17 @@ module _ {D : Type 0} (disk : Ghosts D)
     pub sealed_fails : (f : CommitFault) → HasCause disk y n f → f ≡ StoreFailed
         → LacksRoomFor disk a.desk n.store.disk ⊎ (disk.faults b.store.disk < disk.faults n.store.disk)
     sealed_fails f (inl fails) is = inr (subst (λ (s : StoreState D). disk.faults s.disk < disk.faults n.store.disk) store_stays
-        (subst (λ (e : CommitFault). FailsBy disk y.store n.store e) is fails))
+        (subst (λ (e : CommitFault). FailsBy disk y.store n.store e) is fails).1)
     sealed_fails f (inr lacks) is = inl (lacks_on disk n.store.disk a.desk x.desk drawn_log.0 drawn_log.1 drawn_log.2
         (lacks_drawn x n sealed_one disk drawn_some lacks.1))
+
+    pub sealed_wants : (f : CommitFault) → HasCause disk y n f → f ≡ Memory → disk.faults n.store.disk ≡ disk.faults b.store.disk
+    sealed_wants f (inl fails) is = (subst (λ (e : CommitFault). FailsBy disk y.store n.store e) is fails).1
+        ∙ ap (λ (s : StoreState D). disk.faults s.disk) store_stays
+    sealed_wants f (inr lacks) is = let both : StoreFailed ≡ Memory = sym lacks.0 ∙ is in absurd cc
+
+    pub sealed_well : GoesWell disk y.store n.store → disk.faults n.store.disk ≡ disk.faults b.store.disk
+    sealed_well well = well.no_failure ∙ ap (λ (s : StoreState D). disk.faults s.disk) store_stays
 
     pub sealed_breaks : GoesWell disk y.store n.store → BreaksOff disk b.store n.store
     sealed_breaks well = subst (λ (s : StoreState D). BreaksOff disk s n.store) store_stays (works_break disk y.store n.store well.works)

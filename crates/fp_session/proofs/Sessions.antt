@@ -109,8 +109,8 @@ module _ {D : Type 0} (disk : Ghosts D) (s a : SessionState D) (is : s ≡ a) wh
 -- why a step of a compaction wasn't taken
 pub can_fail : {D : Type 0} (disk : Ghosts D) (a b : SessionState D) (f : CommitFault) →
     FailsBy disk a.half.store b.half.store f → CanFail disk f a b
-can_fail disk a b commit.StoreFailed fails = inr fails
-can_fail disk a b commit.Memory fails = tt
+can_fail disk a b commit.StoreFailed fails = inr fails.1
+can_fail disk a b commit.Memory fails = fails.1
 
 -- ---- refusals
 never_memory : (a b c : Bool) (k : Option ℕ) →

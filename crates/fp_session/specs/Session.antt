@@ -126,12 +126,13 @@ pub record Keeps {D : Type 0} (disk : Ghosts D) (a b : SessionState D) : Type 0 
   -- Its store's half went on by a course: at any moment a crash keeps all that was settled by then.
   pub course : Course disk a.half b.half
 
--- where the store failed, there was no room for what waited, or the device failed
+-- where the store failed, there was no room for what waited, or the device failed; where memory was
+-- wanting, it didn't
 abbrev pub CanFail : {D : Type 0} → Ghosts D → CommitFault → SessionState D → SessionState D
     → Type 0
 CanFail disk StoreFailed a b = LacksRoomFor disk a.desk (disk_of b)
     ⊎ (disk.faults (disk_of a) < disk.faults (disk_of b))
-CanFail disk Memory a b = Unit {0}
+CanFail disk Memory a b = disk.faults (disk_of b) ≡ disk.faults (disk_of a)
 
 -- a session stops at what waits, by a course of its store's half: its calls were those of whole works,
 -- and some first of one more
@@ -140,7 +141,7 @@ pub record Fails {D : Type 0} (disk : Ghosts D) (f : CommitFault)
   -- The disk is honest exactly if it was before.
   pub honest : SameHonesty disk (disk_of a) (disk_of b)
   -- `StoreFailed`: the disk failed, or it has no room for edits that waited, and no generation to
-  -- make it.
+  -- make it. `Memory`: no call of the disk failed.
   pub cause : IsReady disk a → CanFail disk f a b
   -- Its calls were those of whole works and some first ones of one more.
   pub called : BreaksOff disk a.half.store b.half.store

@@ -3,7 +3,7 @@
 ghost use Rattle.std.specs.Prelude.{◌≡◌, ◌≢◌, ◌⊎◌, ◌<◌, [], length, IfErr, OnOk, OnErr};
 ghost use Rattle.fp_committer.specs.Course.{GoesWell};
 ghost use Rattle.fp_committer.specs.Works.{BreaksOff};
-ghost use Rattle.fp_committer.specs.declared.fault.CommitFault.TheVariants.{StoreFailed};
+ghost use Rattle.fp_committer.specs.declared.fault.CommitFault.TheVariants.{Memory, StoreFailed};
 ghost use Rattle.fp_session.specs.Session.{AreAtRest, AreOne, IsInStep, LacksRoomFor, StaysAhead};
 
 use crate::CommitFault;
@@ -22,6 +22,8 @@ fn commit<D: Disk>(desk: &mut DeskHalf, store: &mut StoreHalf<D>) -> Result<(), 
     ensures cause { IfErr result (λ f. f ≡ StoreFailed
         → LacksRoomFor D.Disk desk.old.desk store.new.store.disk
         ⊎ (D.faults store.old.store.disk < D.faults store.new.store.disk)) }
+    ensures memory { IfErr result (λ f. f ≡ Memory
+        → D.faults store.new.store.disk ≡ D.faults store.old.store.disk) }
     ensures called { OnErr result (BreaksOff D.Disk store.old.store store.new.store) }
 {
     store.rest();
@@ -51,6 +53,8 @@ pub fn commit_all<D: Disk>(desk: &mut DeskHalf, store: &mut StoreHalf<D>) -> Res
     ensures cause { IfErr result (λ f. f ≡ StoreFailed
         → LacksRoomFor D.Disk desk.old.desk store.new.store.disk
         ⊎ (D.faults store.old.store.disk < D.faults store.new.store.disk)) }
+    ensures memory { IfErr result (λ f. f ≡ Memory
+        → D.faults store.new.store.disk ≡ D.faults store.old.store.disk) }
     ensures called { OnErr result (BreaksOff D.Disk store.old.store store.new.store) }
 {
     // What a crash leaves is known only where it is asked.

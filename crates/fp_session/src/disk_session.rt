@@ -132,6 +132,8 @@ impl<D: Disk> DiskSession<D> {
         ensures no_failure { IfOk result (λ s. D.faults (disk_of s) ≡ D.faults disk) }
         // `Device` only where the disk's count of failures rose.
         ensures cause { IfErr result (λ e. e.0 ≡ opening.Device → D.faults disk < D.faults e.1) }
+        // `Memory`: no call of the disk failed.
+        ensures memory { IfErr result (λ e. e.0 ≡ opening.Memory → D.faults e.1 ≡ D.faults disk) }
         // `Ok`: its calls were a sync, the length and reads; a fault: some first ones of these.
         ensures called { MatchResult result
             (λ s. ThenReads (Sync ∷ Length ∷ []) (D.calls disk) (D.calls (disk_of s)))

@@ -7,7 +7,7 @@ use Rattle.fp_commands.specs.Disks.{AskedByLines, IsApplyingFault}
 use Rattle.fp_commands.specs.Faults.{of_open}
 use Rattle.fp_commands.specs.Files.{AppliesToDisk, Streams}
 use Rattle.fp_commands.specs.declared.fault.CommandFault.{CommandFault}
-use Rattle.fp_commands.proofs.Blamed.{blames-open}
+use Rattle.fp_commands.proofs.Blamed.{blames-open, wants-open}
 use Rattle.fp_commands.proofs.Courses.{ran}
 use Rattle.fp_commands.proofs.Opened.{only_read, unbegun}
 use Rattle.fp_commands.proofs.Told.{applying-open, applying-run, if_file_refused, open_not_failed, some_both}
@@ -24,7 +24,7 @@ returns-in-Err g c =
     (only_read D d0 d1 e.same e.any_moment e.called) e.honest (open_not_failed f)
     (applying-open (D.honest d0) (D.bytes d0) f e.fault e.refused) refl (λ h none. refl)
     (if_file_refused (s.reader ≡ s.reader) (of_open f) refl)
-    (blames-open (D.faults d0) (D.faults d1) _ f e.cause) (λ not. refl))
+    (blames-open (D.faults d0) (D.faults d1) _ f e.cause) (λ not. refl) (wants-open f (D.faults d1 ≡ D.faults d0) e.memory))
 
 -- it was
 pub returns : goal.returns

@@ -9,7 +9,7 @@ use Rattle.fp_commands.specs.Documents.{IsDocumentFault}
 use Rattle.fp_commands.specs.Faults.{of_open}
 use Rattle.fp_commands.specs.Files.{ImportsToDisk, Streams}
 use Rattle.fp_commands.specs.declared.fault.CommandFault.{CommandFault}
-use Rattle.fp_commands.proofs.Blamed.{blames-beside, blames-open, blames-read}
+use Rattle.fp_commands.proofs.Blamed.{blames-beside, blames-open, blames-read, wants-open}
 use Rattle.fp_commands.proofs.Courses.{ran}
 use Rattle.fp_commands.proofs.Imported.{document-no-file, importing-document, importing-open, importing-run}
 use Rattle.fp_commands.proofs.Opened.{only_read, unbegun}
@@ -26,7 +26,7 @@ returns-in-Err g c =
     (of_open f) (only_read D d0 d1 e.same e.any_moment e.called) e.honest (open_not_failed f)
     (importing-open (D.honest d0) (D.bytes d0) (g.R.Read.remaining s.reader.inner) f e.fault e.refused) refl
     (λ h none. refl) (if_file_refused (s.reader ≡ s.reader) (of_open f) refl)
-    (blames-open (D.faults d0) (D.faults d1) _ f e.cause) (λ not. refl))
+    (blames-open (D.faults d0) (D.faults d1) _ f e.cause) (λ not. refl) (wants-open f (D.faults d1 ≡ D.faults d0) e.memory))
 
 -- no document was read
 pub returns-in-Err-read_document : goal.returns-in-Err-read_document
@@ -47,6 +47,7 @@ returns-in-Err-read_document g c =
     (document-no-file (new.reader ≡ old.reader) left f read.fault)
     (blames-read (D.faults d0) (D.faults c.into_disk.result) c.args.r.now.failures c.read_document.new.r.failures
     c.args.w.now.failures f (ap D.faults c.into_disk.ensures.disk ∙ e.no_failure) read.device) read.read
+    (λ is. ap D.faults c.into_disk.ensures.disk ∙ e.no_failure)
 
 -- it was
 pub returns : goal.returns

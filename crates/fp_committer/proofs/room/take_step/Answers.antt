@@ -23,7 +23,7 @@ returns-in-Err-Device-clause-halts g c =
       works = breaks_step D a b c.in-Err-Device.ensures.disk.called;
       cause = λ is. (let why : StopsBy D.faults a b fault.Device =
           subst (λ (f : StoreFault). StopsBy D.faults a b f) c.in-Err-Device.field-0-is c.in-Err-Device.ensures.fault
-          in why.cause);
+          in (why.failed, why.cause));
       memory = λ is. absurd cc;
     }
 

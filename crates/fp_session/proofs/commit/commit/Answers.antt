@@ -1,7 +1,9 @@
+use Rattle.std.proofs.Common.{ap}
 use Rattle.std.proofs.lemmas.Result.{err_from_is_err_and}
 use Rattle.fp_committer.specs.Committer.{HaveDrawn, HaveSettled}
+use Rattle.fp_committer.specs.StoreHalf.{StoreHalfState}
 use Rattle.fp_committer.specs.WorksLaws.{no_works, works_break}
-use Rattle.fp_session.proofs.Commits.{sealed_breaks, sealed_fails, sealed_stays, settled_stays, stays_itself}
+use Rattle.fp_session.proofs.Commits.{sealed_breaks, sealed_fails, sealed_stays, sealed_wants, sealed_well, settled_stays, stays_itself}
 use Rattle.fp_session.proofs.commit.commit.Goals as goal
 
 -- ---- nothing was drawn
@@ -13,6 +15,10 @@ returns-in_default-clause-stays g c =
 pub returns-in_default-clause-called : goal.returns-in_default-clause-called
 returns-in_default-clause-called g c =
     let s = c.args.store.now.store in rw (c.in_default.ensures.unchanged.1) (works_break g.D.Disk s s (no_works g.D.Disk s))
+
+pub returns-in_default-clause-memory : goal.returns-in_default-clause-memory
+returns-in_default-clause-memory g c = λ is.
+    ap (λ (b : StoreHalfState g.row.D.Denot). g.D.Disk.faults b.store.disk) c.in_default.ensures.unchanged.1
 
 -- ---- it wasn't sealed
 pub returns-in_err-seal-clause-stays : goal.returns-in_err-seal-clause-stays
@@ -30,6 +36,14 @@ returns-in_err-seal-clause-cause g c =
     rw (p.1, p.2) (sealed_fails g.D.Disk g.met.D.Disk.only_now a b c.requires.one c.rest.ensures.exit x y h c.draw.ensures.halves
     c.rest-2.ensures.exit c.seal.new.self c.seal.ensures.kept c.in_err-seal.field-0.0 c.in_err-seal.ensures.cause)
 
+pub returns-in_err-seal-clause-memory : goal.returns-in_err-seal-clause-memory
+returns-in_err-seal-clause-memory g c =
+    let p = err_from_is_err_and c.from_residual.result c.from_residual.ensures.1 in
+    let a = c.args.desk.now in let b = c.args.store.now in let x = c.draw.new.self in let y = c.draw.new.store in
+    let h : HaveDrawn a x b y c.in-Some.field-0 = rw c.in-Some.is at c.in-Ok.ensures.drawn in
+    rw (p.1, p.2) (sealed_wants g.D.Disk g.met.D.Disk.only_now a b c.requires.one c.rest.ensures.exit x y h c.draw.ensures.halves
+    c.rest-2.ensures.exit c.seal.new.self c.seal.ensures.kept c.in_err-seal.field-0.0 c.in_err-seal.ensures.cause)
+
 -- ---- it was sealed, and isn't settled
 pub returns-in_default-settle-clause-stays : goal.returns-in_default-settle-clause-stays
 returns-in_default-settle-clause-stays g c =
@@ -45,6 +59,14 @@ returns-in_default-settle-clause-called g c =
     let a = c.args.desk.now in let b = c.args.store.now in let x = c.draw.new.self in let y = c.draw.new.store in
     let h : HaveDrawn a x b y c.in-Some.field-0 = rw c.in-Some.is at c.in-Ok.ensures.drawn in
     rw (u.1) (sealed_breaks g.D.Disk g.met.D.Disk.only_now a b c.requires.one c.rest.ensures.exit x y h c.draw.ensures.halves
+    c.rest-2.ensures.exit c.seal.new.self c.seal.ensures.kept c.in_ok-seal.ensures.well)
+
+pub returns-in_default-settle-clause-memory : goal.returns-in_default-settle-clause-memory
+returns-in_default-settle-clause-memory g c =
+    let u = c.in_default-settle.ensures.unchanged in
+    let a = c.args.desk.now in let b = c.args.store.now in let x = c.draw.new.self in let y = c.draw.new.store in
+    let h : HaveDrawn a x b y c.in-Some.field-0 = rw c.in-Some.is at c.in-Ok.ensures.drawn in
+    rw (u.1) (λ is. sealed_well g.D.Disk g.met.D.Disk.only_now a b c.requires.one c.rest.ensures.exit x y h c.draw.ensures.halves
     c.rest-2.ensures.exit c.seal.new.self c.seal.ensures.kept c.in_ok-seal.ensures.well)
 
 -- ---- it is settled

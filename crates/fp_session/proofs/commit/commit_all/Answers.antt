@@ -39,6 +39,11 @@ returns-in_err-commit-clause-cause g c =
     rw (p.1, p.2) (λ is. ⊎_elim (λ lacks. inl (lacks_on g.D.Disk now d e l.log.0 l.log.1 l.settled lacks))
     (λ more. inr (omega (arith, more, same))) (c.in_err-commit.ensures.cause is))
 
+pub returns-in_err-commit-clause-memory : goal.returns-in_err-commit-clause-memory
+returns-in_err-commit-clause-memory g c =
+    let p = err_from_is_err_and c.from_residual.result c.from_residual.ensures.1 in
+    rw (p.1, p.2) (λ is. c.in_err-commit.ensures.memory is ∙ c.loop-desk.invariant.well.no_failure)
+
 pub returns-in_err-commit-clause-called : goal.returns-in_err-commit-clause-called
 returns-in_err-commit-clause-called g c =
     let p = err_from_is_err_and c.from_residual.result c.from_residual.ensures.1 in

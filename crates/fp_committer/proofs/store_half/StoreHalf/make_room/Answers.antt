@@ -1,8 +1,11 @@
-use Rattle.std.proofs.Common.{subst}
+use Rattle.std.proofs.Common.{ap, subst}
+use Rattle.fp_group_commit.specs.Store.{StoreState}
 use Rattle.fp_committer.specs.StoreHalf.{IsOut}
 use Rattle.fp_committer.specs.Way.{batch_drawn}
 use Rattle.fp_committer.specs.declared.held.Held.{Held}
+use Rattle.fp_committer.proofs.Keeps.{Half}
 use Rattle.fp_committer.proofs.Seals as seals
+use Rattle.fp_committer.proofs.Ways as ways
 use Rattle.fp_committer.proofs.store_half.StoreHalf.make_room.Goals as goal
 
 pub make_room-requires-clause-keeps : goal.make_room-requires-clause-keeps
@@ -23,6 +26,15 @@ returns-clause-kept g c =
     rw (← c.self.view_is) (seals.stays_calls D c.self.invariant n
     (seals.either_way c.make_room.result _ _ _ e.proceeds e.halts (λ p. p.stays)
     (seals.stayed D s n c.in-Drawn.draw)) _ _)
+
+-- where there is room the store stays
+pub returns-clause-none : goal.returns-clause-none
+returns-clause-none g c =
+    let s = c.self.inside.store in let half = c.self.inside.half in let draw = c.in-Drawn.draw in
+    let o = subst (λ (x : Held). IsOut x s half.settled) c.in-Drawn.is c.self.invariant.out in
+    rw (← c.self.view_is, c.in-Drawn.is)
+    (λ can. ap (λ (n : StoreState g.row.D.Denot). Half n batch_drawn draw.changes half)
+    (c.make_room.ensures.none (ways.has_room draw s half.settled o.2 can)))
 
 pub returns-clause-cause : goal.returns-clause-cause
 returns-clause-cause g c =

@@ -12,6 +12,12 @@ returns-clause-kept g c =
     (courses.calls_then D c.args.self.now m n c.make_room.ensures.kept c.write.ensures.kept)
     c.make_sure.ensures.kept
 
+pub returns-clause-alone : goal.returns-clause-alone
+returns-clause-alone g c = λ can.
+    let D = g.D.Disk in let m = c.make_room.new.self in let n = c.write.new.self in let d = c.make_sure.new.self in
+    courses.alone_by D c.args.self.now m n d c.in_ok-make_room.ensures.well c.in_ok-make_room.ensures.room.early
+    (c.make_room.ensures.none can) c.in_ok-write.ensures.staged c.make_sure.result c.make_sure.ensures.sealed
+
 pub returns-clause-well : goal.returns-clause-well
 returns-clause-well g c =
     let D = g.D.Disk in let m = c.make_room.new.self in let n = c.write.new.self in let d = c.make_sure.new.self in
