@@ -1,7 +1,9 @@
 -- What a plane's lock keeps, and whose committer's halves there are.
 use Rattle.std.specs.Prelude.{◌≡◌, ◌⊎◌, ◌<◌, ◌+◌, ◌||◌, ℕ, Bool, true, false, List, [], length, Option, None}
 use Rattle.std.specs.Prelude.{All}
+use Rattle.fp_disk.specs.declared.disk.Disk.{Ghosts}
 use Rattle.fp_committer.specs.Committer.{DeskHalfState}
+use Rattle.fp_committer.specs.Course.{LacksRoom}
 use Rattle.fp_committer.specs.Halves.{HalfState, Names}
 use Rattle.fp_committer.specs.StoreHalf.{StoreHalfState}
 use Rattle.fp_desk.specs.Desk.{DeskState, settled_front, settled_revision}
@@ -47,6 +49,10 @@ pub record IsStoreOf {D : Type 0} (store : Identity) (desk_lists store_lists : N
     (h : StoreHalfState D) : Type 0 where
   pub ours : h.store.store ≡ store
   pub named : IsNamed store_lists desk_lists h.half
+
+-- it seals nothing any more: the store has failed, or has no room for what is drawn
+abbrev pub SealsNoMore : {D : Type 0} → Ghosts D → StoreHalfState D → Type 0
+SealsNoMore disk h = (h.store.failed ≡ true) ⊎ LacksRoom disk h
 
 -- the last revision that is settled of the store's half
 abbrev pub settled_by : {D : Type 0} → StoreHalfState D → ℕ

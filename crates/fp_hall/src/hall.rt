@@ -13,7 +13,7 @@ ghost use Rattle.fp_publish.specs.Fronts.{Begins};
 ghost use Rattle.fp_publish.specs.declared.board.TheConstants.{MOST_EVALUATORS};
 ghost use Rattle.std.specs.Vec.{vec_capacity};
 ghost use Rattle.fp_hall.specs.Hall.{IsAtRest, IsDeskOf, IsNew, IsNewDesk, IsOver, IsStoreOf};
-ghost use Rattle.fp_hall.specs.Hall.{IsUnanswered, desk_of, settled_by};
+ghost use Rattle.fp_hall.specs.Hall.{IsUnanswered, SealsNoMore, desk_of, settled_by};
 ghost use Rattle.fp_hall.specs.Places.{StandsAt};
 
 mod lending;
@@ -32,7 +32,7 @@ use std::alloc::{AllocError, Global};
 use std::marker::{Model, PhantomData};
 use std::snapshot::Snapshot;
 use std::sync::Wait;
-pub use tokens::{AllSettled, GivenUp, Gone, Refusal};
+pub use tokens::{AllSettled, GivenUp, Gone, Refusal, Staying};
 
 /// Somebody has each evaluator.
 #[derive(Debug, Drop, Clone, Copy, PartialEq, Eq)]
@@ -361,8 +361,12 @@ impl<K: Naming, R: Wait + Drop> Hall<K, R> {
         AllSettled { of: () }
     }
 
-    /// No batch is drawn any more, since sealing broke off. No edit is taken any more.
-    pub fn break_off(&mut self)
+    /// No batch is drawn any more, since sealing by this half broke off. No edit is taken any more.
+    pub fn break_off<D: Disk>(&mut self, _half: &StoreHalf<D>)
+        // The half is the store's of the committer that the hall is of,
+        requires ours { IsStoreOf K.store K.desk_lists K.store_lists _half.now }
+        // and it seals nothing any more.
+        requires cause { SealsNoMore D.Disk _half.now }
         ensures { self.new ≡ record self.old {
           desk = record self.old.desk { stopped = true };
           failed = true;

@@ -7,6 +7,6 @@ mod naming;
 mod own_board;
 mod ticket;
 
-pub use hall::{AllSettled, EvaluatorsUsed, GivenUp, Gone, Hall, Refusal};
+pub use hall::{AllSettled, EvaluatorsUsed, GivenUp, Gone, Hall, Refusal, Staying};
 pub use naming::Naming;
 pub use ticket::{Accepted, PlaneTicket};

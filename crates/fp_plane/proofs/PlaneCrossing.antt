@@ -10,6 +10,7 @@ use Rattle.fp_disk.specs.declared.disk.Disk as disk
 use Rattle.fp_fronts.proofs.growing.Growing.TheSendSync as growing
 use Rattle.fp_hall.proofs.HallCrossing.{hall_sent}
 use Rattle.fp_plane.proofs.bells.Bells.TheSendSync as bells
+use Rattle.fp_plane.proofs.evaluating.Evaluations.TheSendSync as evaluations
 use Rattle.fp_plane.proofs.flushing.Broken.TheSendSync as broken
 use Rattle.fp_plane.proofs.gathering.Gathering.TheSendSync as gathering
 use Rattle.fp_hall.proofs.hall.tokens.AllSettled.TheSendSync as all_settled
@@ -40,7 +41,19 @@ module _ (K R : RattleType) (k : naming.Ghosts K.Denot) (sr : IsSend R) where
         search (sendable, sr) depth 5,
         (
           search (sendable, crosses, hall_sent K R k sr) depth 10,
-          (atomic.the_field_send, (condvar.the_field_send, (bells.the_field_send, (condvar.the_field_send, tt)))),
+          (
+            atomic.the_field_send,
+            (
+              condvar.the_field_send,
+              (
+                bells.the_field_send,
+                (
+                  condvar.the_field_send,
+                  (evaluations.the_field_send, tt),
+                ),
+              ),
+            ),
+          ),
         ),
       ))
 
@@ -50,7 +63,19 @@ module _ (K R : RattleType) (k : naming.Ghosts K.Denot) (sr : IsSend R) where
         search (sendable, yr) depth 5,
         (
           search (sendable, crosses, hall_sent K R k sr) depth 10,
-          (atomic.the_field_sync, (condvar.the_field_sync, (bells.the_field_sync, (condvar.the_field_sync, tt)))),
+          (
+            atomic.the_field_sync,
+            (
+              condvar.the_field_sync,
+              (
+                bells.the_field_sync,
+                (
+                  condvar.the_field_sync,
+                  (evaluations.the_field_sync, tt),
+                ),
+              ),
+            ),
+          ),
         ),
       ))
 

@@ -11,7 +11,7 @@ ghost use Rattle.fp_committer.specs.StoreHalf.{StoreHalfState};
 ghost use Rattle.fp_committer.specs.Way.{batch_drawn, batch_sealed};
 ghost use Rattle.fp_group_commit.specs.Tokens.{front_revision};
 ghost use Rattle.fp_plane.specs.Flushing.{Flushes, IsResting, PaysEach, StepsWhereDue};
-ghost use Rattle.fp_hall.specs.Hall.{IsStoreOf, settled_by};
+ghost use Rattle.fp_hall.specs.Hall.{IsStoreOf, SealsNoMore, settled_by};
 ghost use Rattle.fp_plane.specs.declared.flushing.Lull.TheVariants.{Alone};
 
 use crate::gathering::{Gathering, Sealing};
@@ -106,6 +106,7 @@ where
         (D.faults half.new.store.disk ≡ D.faults half.old.store.disk) }
     ensures cause { OnErr result ((D.faults half.old.store.disk < D.faults half.new.store.disk)
         ⊎ LacksRoom D.Disk half.new) }
+    ensures broken { OnErr result (SealsNoMore D.Disk half.new) }
     ensures alone { IfOk result (λ p. p ≡ Alone → gathering.new.alone ≡ true) }
     // The step that is owed is taken first, and one at the end of each turn.
     ensures steps { OnOk result (PaysEach D.Disk owes_step.old half.old half.new) }
@@ -154,6 +155,7 @@ where
         (D.faults half.new.store.disk ≡ D.faults half.old.store.disk) }
     ensures cause { OnErr result.1 ((D.faults half.old.store.disk < D.faults half.new.store.disk)
         ⊎ LacksRoom D.Disk half.new) }
+    ensures broken { OnErr result.1 (SealsNoMore D.Disk half.new) }
     // Nothing is drawn without a step that is owed behind it.
     ensures owes { owes_step.new ≡ false → half.new ≡ half.old }
 {
@@ -188,6 +190,7 @@ where
         (D.faults half.new.store.disk ≡ D.faults half.old.store.disk) }
     ensures cause { OnErr result ((D.faults half.old.store.disk < D.faults half.new.store.disk)
         ⊎ LacksRoom D.Disk half.new) }
+    ensures broken { OnErr result (SealsNoMore D.Disk half.new) }
 {
     let before = Seen::of(half.store());
     let sealing = Sealing::begin(&plane.shared.rt, half.store());
@@ -214,6 +217,7 @@ fn seal<D: Disk, R: Wait + Clock + Log>(
         (D.faults half.new.store.disk ≡ D.faults half.old.store.disk) }
     ensures cause { OnErr result ((D.faults half.old.store.disk < D.faults half.new.store.disk)
         ⊎ LacksRoom D.Disk half.new) }
+    ensures broken { OnErr result (SealsNoMore D.Disk half.new) }
 {
     let mut retries = Retries::of("batch");
     for _ in rt.forever() {
@@ -241,6 +245,7 @@ where
     ensures no_failure { OnOk result
         (D.faults half.new.store.disk ≡ D.faults half.old.store.disk) }
     ensures cause { OnErr result (D.faults half.old.store.disk < D.faults half.new.store.disk) }
+    ensures broken { OnErr result (half.new.store.failed ≡ true) }
     // The step that is owed is taken where it is due,
     ensures step { OnOk result (owes_step.old ≡ true
         → StepsWhereDue D.faults half.old.store half.new.store) }
@@ -267,6 +272,7 @@ fn compact_on<D: Disk>(half: &mut StoreHalf<D>) -> Result<(), UntoldFailure>
     ensures no_failure { OnOk result
         (D.faults half.new.store.disk ≡ D.faults half.old.store.disk) }
     ensures cause { OnErr result (D.faults half.old.store.disk < D.faults half.new.store.disk) }
+    ensures broken { OnErr result (half.new.store.failed ≡ true) }
     ensures step { OnOk result (StepsWhereDue D.faults half.old.store half.new.store) }
 {
     match half.go_on() {
@@ -283,19 +289,24 @@ impl<K: Naming, R: Wait + Clock + Log + Drop> Plane<K, R> {
         self.shared.news.notify_all();
     }
 
-    /// No batch is drawn any more, since sealing failed. Wakes all who wait, and the flusher: that
-    /// wants the lock of a hall that sealing broke off.
-    pub(crate) fn break_off(&self) -> Broken {
-        self.tell_broken(self.broken())
+    /// No batch is drawn any more, since this half seals nothing any more. Wakes all who wait, and the
+    /// flusher: that wants the lock of a hall that sealing broke off.
+    pub(crate) fn break_off<D: Disk>(&self, half: &StoreHalf<D>) -> Broken
+        requires ours { IsStoreOf K.store K.desk_lists K.store_lists half.now }
+        requires cause { SealsNoMore D.Disk half.now }
+    {
+        self.tell_broken(self.broken(half))
     }
 
     // The lock, under which the hall is told that sealing broke off.
-    fn broken(&self) -> MutexGuard<'_, Hall<K, R>>
+    fn broken<D: Disk>(&self, half: &StoreHalf<D>) -> MutexGuard<'_, Hall<K, R>>
+        requires ours { IsStoreOf K.store K.desk_lists K.store_lists half.now }
+        requires cause { SealsNoMore D.Disk half.now }
         ensures failed { result.value.failed ≡ true }
         ensures ended { result.value.ended ≡ true }
     {
         let mut hall = self.shared.hall.lock(&self.shared.rt);
-        hall.break_off();
+        hall.break_off(half);
         hall
     }
 

@@ -169,7 +169,7 @@ impl<K: Naming, D: Disk + Drop> Lying<K, D> {
         );
         match ended {
             Ok(()) => {}
-            Err(UntoldFailure) => self.broken = Some(plane.break_off()),
+            Err(UntoldFailure) => self.broken = Some(plane.break_off(&self.half)),
         }
         submitted
     }
@@ -195,7 +195,7 @@ impl<K: Naming, D: Disk + Drop> Lying<K, D> {
         let stepped = take_step(&plane.shared.rt, &mut self.half, &mut self.owes_step);
         match stepped {
             Ok(()) => {}
-            Err(UntoldFailure) => self.broken = Some(plane.break_off()),
+            Err(UntoldFailure) => self.broken = Some(plane.break_off(&self.half)),
         }
     }
 
@@ -225,7 +225,7 @@ impl<K: Naming, D: Disk + Drop> Lying<K, D> {
             Ok(Lull::Alone) => None,
             Ok(Lull::Over(settled)) => Some(Ok(settled)),
             Err(UntoldFailure) => {
-                let broken = plane.break_off();
+                let broken = plane.break_off(&self.half);
                 self.broken = Some(broken);
                 Some(Err(broken))
             }

@@ -2,6 +2,7 @@
 #![tactic(auto)]
 
 mod bells;
+mod evaluating;
 mod flushing;
 mod gathering;
 mod leading;
@@ -12,6 +13,7 @@ mod sealing;
 mod telling;
 mod turns;
 
+pub use evaluating::Evaluating;
 pub use flushing::{Broken, Flushed, flusher};
 pub use fp_hall::{
     Accepted, AllSettled, EvaluatorsUsed, GivenUp, Gone, Hall, Naming, PlaneTicket, Refusal,

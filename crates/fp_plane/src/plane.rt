@@ -16,7 +16,7 @@ ghost use Rattle.fp_hall.specs.Hall.{IsDeskOf, IsNewDesk};
 ghost use Rattle.fp_hall.specs.Places.{StandsAt};
 
 use crate::bells::Bells;
-use crate::pausing::pause;
+use crate::evaluating::{Evaluating, Evaluations};
 use fp_committer::DeskHalf;
 use fp_desk::Ticket;
 use fp_edit::Edit;
@@ -45,6 +45,8 @@ pub(crate) struct Shared<K: Naming, R: Wait + Drop> {
     pub(crate) bells: Bells,
     // For subscribers: something was shown, the plane is over, or it is looked who has left.
     pub(crate) news: Condvar,
+    // For whoever publishes, before it locks the hall.
+    pub(crate) evaluations: Evaluations,
 }
 
 impl<K: Naming, R: Wait + Drop> Shared<K, R> {
@@ -86,6 +88,7 @@ impl<K: Naming, R: Wait + Copy + Drop> Plane<K, R> {
             work: Condvar::new(),
             bells: Bells::new(alloc)?,
             news: Condvar::new(),
+            evaluations: Evaluations::new(),
         };
         Ok(Plane {
             shared: Arc::new(alloc, shared)?,
@@ -167,6 +170,12 @@ impl<K: Naming, R: Wait + Drop> Plane<K, R> {
         self.shared.hall.lock(&self.shared.rt).evaluator()
     }
 
+    /// Notes that an evaluation begins, which ends where this is let go of. Whoever publishes waits
+    /// for those that are noted without holding anybody up.
+    pub fn begin_evaluation(&self) -> Evaluating<'_> {
+        self.shared.evaluations.begin()
+    }
+
     /// Takes an evaluator back.
     pub fn give_back(&self, evaluator: Evaluator)
         // The evaluator is of the plane's store.
@@ -231,8 +240,8 @@ impl<K: Naming, R: Wait + Drop> Plane<K, R> {
 impl<K: Naming, R: Wait + Clock + Drop> Plane<K, R> {
     /// Waits until something is shown that the seat's subscriber hasn't got, and hands it that.
     /// `Err` where the plane was stopped or it has left, and nowhere else: these two alone make a
-    /// `Gone`. Whether it has left is asked each second in which nothing new is shown, and where
-    /// the plane looks who has left.
+    /// `Gone`. Whether it has left is asked each second in which nothing new is shown, each time
+    /// that memory is wanting for a document, and where the plane looks who has left.
     pub fn handed<G: Fn() -> bool>(&self, seat: &mut Seat, has_left: &G) -> Result<Handed, Gone>
         // `has_left` may be called at any time.
         requires { G.IsAlwaysCallable has_left.now }
@@ -248,29 +257,22 @@ impl<K: Naming, R: Wait + Clock + Drop> Plane<K, R> {
         let mut hall = shared.hall.lock(&shared.rt);
         let mut looks = hall.looks();
         for _ in shared.rt.forever() {
-            match hall.hand(seat) {
+            // Without memory for a document it is tried again soon.
+            let quiet = match hall.hand(seat) {
                 Ok(Some(handed)) => return Ok(handed),
-                Ok(None) => {
-                    if let Some(gone) = hall.gone() {
-                        return Err(gone);
-                    }
-                    let quiet = Duration::from_secs(1);
-                    let (held, waited) = shared.news.wait_timeout(&shared.rt, hall, quiet);
-                    hall = held;
-                    let before = mem::replace(&mut looks, hall.looks());
-                    if waited.timed_out() || looks != before {
-                        drop(hall);
-                        if let Some(gone) = Gone::where_left(has_left) {
-                            return Err(gone);
-                        }
-                        hall = shared.hall.lock(&shared.rt);
-                    }
+                Ok(None) => Duration::from_secs(1),
+                Err(_) => Duration::from_millis(1),
+            };
+            let staying = hall.staying()?;
+            let (held, waited) = shared.news.wait_timeout(&shared.rt, hall, quiet);
+            hall = held;
+            let before = mem::replace(&mut looks, hall.looks());
+            if waited.timed_out() || looks != before {
+                drop(hall);
+                if let Some(gone) = staying.where_left(has_left) {
+                    return Err(gone);
                 }
-                Err(_) => {
-                    drop(hall);
-                    pause(&shared.rt);
-                    hall = shared.hall.lock(&shared.rt);
-                }
+                hall = shared.hall.lock(&shared.rt);
             }
         }
         unreachable!()

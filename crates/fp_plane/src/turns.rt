@@ -128,6 +128,7 @@ impl<K: Naming, R: Wait + Clock + Log + Drop> Plane<K, R> {
         ensures shown { settled_by half.new ≤ front_revision result.1 }
     {
         let shared = &self.shared;
+        shared.evaluations.await_earlier(&shared.rt);
         let mut retries = Retries::of("settling");
         for _ in shared.rt.forever() {
             let mut hall = shared.hall.lock(&shared.rt);
@@ -135,6 +136,7 @@ impl<K: Naming, R: Wait + Clock + Log + Drop> Plane<K, R> {
             if hall.settle(half).is_ok() {
                 let told = hall.told();
                 let published = hall.publish();
+                shared.evaluations.turn_if(published.is_ok());
                 let waiting = hall.waiting_count();
 
                 // Who is woken wants the lock.
@@ -174,7 +176,8 @@ impl<K: Naming, R: Wait + Clock + Log + Drop> Plane<K, R> {
             let mut hall = shared.hall.lock(&shared.rt);
 
             // Where memory is wanting still, what is shown is behind what was told.
-            let _ = hall.publish();
+            let published = hall.publish();
+            shared.evaluations.turn_if(published.is_ok());
             if let Some(shown) = hall.shown(told) {
                 return shown;
             }

@@ -14,7 +14,7 @@ pub enum Ended {
     ByPeer,
     /// It said nothing between two requests, for too long.
     Idle,
-    /// A request that had begun wasn't whole in time.
+    /// A request that had begun wasn't whole in time, or a hello's next byte didn't come.
     SlowRequest,
     /// Nothing of a reply was taken, for too long.
     SlowReply,

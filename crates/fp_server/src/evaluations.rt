@@ -88,6 +88,7 @@ impl<K: Naming, R: Wait + Copy + Drop> Answers for LentEvaluator<K, R> {
             (option_copied if_none_match.entry) (body_seen body.entry) now) }
         ensures rested { self.new.evaluator.lent ≡ None }
     {
+        let _under_way = self.plane.begin_evaluation();
         self.evaluator
             .answer(alloc, method, target, if_none_match, body, now)
     }

@@ -29,6 +29,14 @@ impl Noted<'_> {
         self.ended
     }
 
+    fn note_of_reader(&mut self, fault: &io::Error) {
+        self.ended = Some(match fault.kind() {
+            // By the stream's own limit.
+            ErrorKind::WouldBlock => Ended::SlowRequest,
+            kind => Ended::Fault(kind),
+        });
+    }
+
     fn note_of_writer(&mut self, fault: &io::Error) {
         self.ended = Some(match fault.kind() {
             // By the stream's own limit, or by the system's on what isn't taken.
@@ -44,7 +52,7 @@ impl Read for Noted<'_> {
         match stream.read(buf) {
             Ok(count) => Ok(count),
             Err(fault) => {
-                self.ended = Some(Ended::Fault(fault.kind()));
+                self.note_of_reader(&fault);
                 Err(fault)
             }
         }

@@ -76,7 +76,7 @@ where
     match role {
         Role::Evaluations => evaluate(rt, limits, plane.plane(), stream),
         Role::Edits => edit(rt, plane, stream, place),
-        Role::Snapshots => subscribe(plane.plane(), stream),
+        Role::Snapshots => subscribe(limits, plane.plane(), stream),
     }
 }
 
@@ -157,11 +157,13 @@ where
     }
 }
 
-fn subscribe<K, R>(plane: &Plane<K, R>, stream: &TcpStream) -> Ended
+fn subscribe<K, R>(limits: TimeLimits, plane: &Plane<K, R>, stream: &TcpStream) -> Ended
 where
     K: Naming,
     R: Host,
 {
+    // Who says no hello holds no place.
+    let _ = stream.set_read_timeout(Some(limits.request));
     let mut r = FailureCounted::new(Noted::new(stream));
     let mut w = FailureCounted::new(Noted::new(stream));
     match subscribe_over(plane, stream, &mut r, &mut w) {
@@ -181,7 +183,8 @@ where
     K: Naming,
     R: Host,
 {
-    match subscriber_loop(plane, r, w, || has_left(stream)) {
+    let (ended, _shown) = subscriber_loop(plane, r, w, || has_left(stream));
+    match ended {
         Ok(_gone) => Some(Ended::ByPeer),
         Err(SubscriberFault::TooLong) => Some(Ended::Fault(ErrorKind::FileTooLarge)),
         Err(SubscriberFault::Hello(HelloFault::Device)) | Err(SubscriberFault::Device) => None,

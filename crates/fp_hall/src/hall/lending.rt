@@ -1,14 +1,14 @@
 //! What a hall lends: evaluators of its board, and seats that are handed what is shown.
 
 ghost use Rattle.std.specs.Prelude.{◌≡◌, ◌⊎◌, ◌<◌, ◌≤◌, ◌+◌, ◌-◌, ◌++◌, ◌∷◌, [], ◌&&◌, None, Some};
-ghost use Rattle.std.specs.Prelude.{is_some, length, IfOk, IfSome, MatchOption, MatchResult, OnErr};
+ghost use Rattle.std.specs.Prelude.{is_err, length, IfOk, IfSome, MatchOption, MatchResult, OnErr};
 ghost use Rattle.fp_group_commit.specs.Tokens.{front_revision};
 ghost use Rattle.fp_publish.specs.Seats.{IsNews, had_by};
 ghost use Rattle.fp_publish.specs.declared.board.TheConstants.{MOST_EVALUATORS};
 ghost use Rattle.fp_publish.specs.declared.seats.TheConstants.{MOST_SEATS};
 ghost use Rattle.fp_stream.specs.declared.hello.Hello.TheVariants.{Has};
 
-use super::{EvaluatorsUsed, Gone, Hall};
+use super::{EvaluatorsUsed, Gone, Hall, Staying};
 use crate::naming::Naming;
 use fp_publish::{Evaluator, Handed, MOST_EVALUATORS, Seat, SeatsUsed};
 use fp_stream::Hello;
@@ -113,11 +113,15 @@ impl<K: Naming, R: Wait + Drop> Hall<K, R> {
         self.looks = self.looks.wrapping_add(1);
     }
 
-    /// That subscribers are to go: `Some` exactly where the plane is to stop and no batch is drawn
-    /// any more, so that nothing more is shown.
-    pub fn gone(&self) -> Option<Gone>
-        ensures { is_some result ≡ (self.now.closing && self.now.ended) }
+    /// That subscribers stay: `Err` exactly where the plane is to stop and no batch is drawn any
+    /// more, so that nothing more is shown.
+    pub fn staying(&self) -> Result<Staying, Gone>
+        ensures { is_err result ≡ (self.now.closing && self.now.ended) }
     {
-        (self.is_closing && self.has_ended).then(|| Gone { of: () })
+        if self.is_closing && self.has_ended {
+            Err(Gone { of: () })
+        } else {
+            Ok(Staying { of: () })
+        }
     }
 }

@@ -46,8 +46,8 @@ impl Model for AllSettled {
     ghost view = { λ _. tt };
 }
 
-/// That a subscriber gets nothing more: the plane was stopped, or it has left. `Hall::gone` and
-/// `Gone::where_left` make one, and nothing else does.
+/// That a subscriber gets nothing more: the plane was stopped, or it has left. `Hall::staying` and
+/// `Staying::where_left` make one, and nothing else does.
 #[derive(Drop)]
 pub struct Gone {
     pub(super) of: (),
@@ -59,9 +59,21 @@ impl Model for Gone {
     ghost view = { λ _. tt };
 }
 
-impl Gone {
+/// That subscribers stay, but those who have left. `Hall::staying` makes one, and nothing else does.
+#[derive(Drop)]
+pub struct Staying {
+    pub(super) of: (),
+}
+
+impl Model for Staying {
+    ghost Value = { Unit {0} };
+
+    ghost view = { λ _. tt };
+}
+
+impl Staying {
     /// Asks whether a subscriber has left: `Some` exactly where it is answered so.
-    pub fn where_left<G: Fn() -> bool>(has_left: &G) -> Option<Gone>
+    pub fn where_left<G: Fn() -> bool>(self, has_left: &G) -> Option<Gone>
         requires { G.IsAlwaysCallable has_left.now }
         ensures { G.post has_left.now (is_some result) }
     {

@@ -1,7 +1,13 @@
 use Rattle.std.proofs.Common.{ap, rules, sym, ◌≡◌, ◌∙◌, false}
 use Rattle.std.specs.Prelude.{is_err, is_some}
 use Rattle.fp_plane.proofs.LyingLemmas.{left_then}
+use Rattle.fp_plane.proofs.HalfLemmas.{ours_on}
 use Rattle.fp_plane.proofs.leading.Lying.flush.Goals as goal
+
+-- the half is the plane's still
+pub break_off-broken-requires-clause-ours : goal.break_off-broken-requires-clause-ours
+break_off-broken-requires-clause-ours g c = let k = g.K.Naming in let i = c.self.inside in let s = c.flush_while_busy-paused in
+    ours_on g.D.Disk k.store k.desk_lists k.store_lists i.half s.new.half s.ensures.course c.self.invariant.1.ours
 
 pub invariant_of-self-in-Err : goal.invariant_of-self-in-Err
 invariant_of-self-in-Err g c =

@@ -1,7 +1,13 @@
 use Rattle.std.proofs.Common.{ap, rules, sym, ◌≡◌, ◌∙◌, false}
 use Rattle.std.specs.Prelude.{is_err, is_some}
 use Rattle.fp_plane.proofs.LyingLemmas.{either_cause, left_then}
+use Rattle.fp_plane.proofs.HalfLemmas.{ours_on}
 use Rattle.fp_plane.proofs.leading.Lying.go_on.Goals as goal
+
+-- the half is the plane's still
+pub break_off-requires-clause-ours : goal.break_off-requires-clause-ours
+break_off-requires-clause-ours g c = let k = g.K.Naming in let i = c.self.inside in let s = c.take_step-stepped in
+    ours_on g.D.Disk k.store k.desk_lists k.store_lists i.half s.new.half s.ensures.course c.self.invariant.1.ours
 
 pub invariant_of-self : goal.invariant_of-self
 invariant_of-self g c =
