@@ -9,6 +9,7 @@ use Rattle.fp_base.proofs.Known.{Appends-nil, Appends-more}
 use Rattle.fp_edit.specs.Edits.{Change, change_in}
 use Rattle.fp_group_commit.specs.Tokens.{FrontState, Identity, front_revision}
 use Rattle.fp_hall.specs.Places.{StandsAt}
+use Rattle.fp_hall.specs.declared.editor.Said.{Said}
 use Rattle.fp_hall.proofs.Halls.{begins_reaches}
 use Rattle.fp_hall.proofs.PlaceLemmas.{stands-on}
 use Rattle.fp_publish.specs.Fronts.{Begins}
@@ -16,17 +17,32 @@ use Rattle.fp_publish.proofs.FrontLemmas.{compared}
 use Rattle.fp_session.specs.Asks.{Ask}
 use Rattle.fp_session.specs.Sources.{HasAsked}
 use Rattle.fp_conversations.specs.Answers.{Answer, IsShownAs, IsWithin, may_want, revision_in, answer_text, texts_of}
-use Rattle.fp_conversations.specs.Editing.{GoesOnFrom, IsServed}
-use Rattle.fp_conversations.specs.Outcomes.{AreAnswersTo, IsAnswerTo, IsMadeBy, answer_to_outcome}
+use Rattle.fp_conversations.specs.Editing.{GoesOnFrom, HandsIn, IsServed}
+use Rattle.fp_conversations.specs.Outcomes.{AreAnswersTo, AreHandedIn, IsAnswerTo, IsHandedIn, IsMadeBy, answer_to_outcome}
 
 -- ---- answers, one behind the other
 
-AreAnswersTo-push : (told : Option FrontState) (xs : List Ask) (bs : List Answer) (x : Ask) (a : Answer) →
-    AreAnswersTo told xs bs → IsAnswerTo told x a → AreAnswersTo told (xs ++ x ∷ []) (bs ++ a ∷ [])
-AreAnswersTo-push told [] [] x a each one = (one, tt)
-AreAnswersTo-push told [] (b ∷ bs) x a each one = absurd each
-AreAnswersTo-push told (y ∷ xs) [] x a each one = absurd each
-AreAnswersTo-push told (y ∷ xs) (b ∷ bs) x a each one = (each.0, AreAnswersTo-push told xs bs x a each.1 one)
+-- behind nothing
+last : (heard here : List Said) → heard ≡ [] → heard ++ here ≡ here ++ []
+last heard here none = ap (λ (h : List Said). h ++ here) none ∙ sym (append-nil here)
+
+-- behind the rest
+behind : (heard first later here : List Said) → heard ≡ first ++ later → heard ++ here ≡ first ++ (later ++ here)
+behind heard first later here part = ap (λ (h : List Said). h ++ here) part ∙ append_assoc first later here
+
+AreAnswersTo-push : (told : Option FrontState) (xs : List Ask) (bs : List Answer) (heard : List Said) (x : Ask) (a : Answer)
+    (here : List Said) → AreAnswersTo told xs bs heard → IsAnswerTo told x a here →
+    AreAnswersTo told (xs ++ x ∷ []) (bs ++ a ∷ []) (heard ++ here)
+AreAnswersTo-push told [] [] heard x a here each one = (here, [], last heard here each, one, refl)
+AreAnswersTo-push told [] (b ∷ bs) heard x a here each one = absurd each
+AreAnswersTo-push told (y ∷ xs) [] heard x a here each one = absurd each
+AreAnswersTo-push told (y ∷ xs) (b ∷ bs) heard x a here each one = (
+  each.0,
+  each.1 ++ here,
+  behind heard each.0 each.1 here each.2,
+  each.3,
+  AreAnswersTo-push told xs bs each.1 x a here each.4 one,
+)
 
 texts_of-push : (bs : List Answer) (a : Answer) → texts_of (bs ++ a ∷ []) ≡ texts_of bs ++ (answer_text a ++ 10 ∷ [])
 texts_of-push [] a = append-nil (answer_text a ++ 10 ∷ [])
@@ -72,16 +88,23 @@ made-more (Some n) c None more less made = absurd made
 made-more (Some n) c (Some f) None less made = absurd less
 made-more (Some n) c (Some f) (Some g) less made = stands-on f g n c less made
 
-pub answers-more : (told more : Option FrontState) (x : Ask) (a : Answer) → GoesOnFrom more told → IsAnswerTo told x a → IsAnswerTo more x a
-answers-more told more (Ok edit) a less answers = (made-more (revision_in a) (change_in edit) told more less answers.0, answers.1)
-answers-more told more (Err fault) a less answers = answers
+pub answers-more : (told more : Option FrontState) (x : Ask) (a : Answer) (here : List Said) → GoesOnFrom more told →
+    IsAnswerTo told x a here → IsAnswerTo more x a here
+answers-more told more (Ok edit) a here less answers = (made-more (revision_in a) (change_in edit) told more less answers.0, answers.1)
+answers-more told more (Err fault) a here less answers = answers
 
-each-more : (told more : Option FrontState) (xs : List Ask) (bs : List Answer) → GoesOnFrom more told →
-    AreAnswersTo told xs bs → AreAnswersTo more xs bs
-each-more told more [] [] less each = tt
-each-more told more [] (b ∷ bs) less each = absurd each
-each-more told more (y ∷ xs) [] less each = absurd each
-each-more told more (y ∷ xs) (b ∷ bs) less each = (answers-more told more y b less each.0, each-more told more xs bs less each.1)
+each-more : (told more : Option FrontState) (xs : List Ask) (bs : List Answer) (heard : List Said) → GoesOnFrom more told →
+    AreAnswersTo told xs bs heard → AreAnswersTo more xs bs heard
+each-more told more [] [] heard less each = each
+each-more told more [] (b ∷ bs) heard less each = absurd each
+each-more told more (y ∷ xs) [] heard less each = absurd each
+each-more told more (y ∷ xs) (b ∷ bs) heard less each = (
+  each.0,
+  each.1,
+  each.2,
+  answers-more told more y b each.0 less each.3,
+  each-more told more xs bs each.1 less each.4,
+)
 
 -- ---- what is shown of an answer
 
@@ -91,13 +114,17 @@ shown-again a b c first (inl same) = subst (IsShownAs a) (sym same) first
 shown-again a b c (inl same) (inr wanting) = inr (subst (λ (x : Answer). may_want x ≡ true) same wanting.0, wanting.1)
 shown-again a b c (inr first) (inr wanting) = inr (first.0, wanting.1)
 
-pub shown-answers : (told : Option FrontState) (x : Ask) (a b : Answer) → IsAnswerTo told x a → IsShownAs a b → IsAnswerTo told x b
-shown-answers told (Err f) a b answers (inl same) = subst (IsAnswerTo told (Err f)) (sym same) answers
-shown-answers told (Err f) a b answers (inr wanting) = inr wanting.1
-shown-answers told (Ok edit) a b answers (inl same) = subst (IsAnswerTo told (Ok edit)) (sym same) answers
-shown-answers told (Ok edit) a b (made, inl by) (inr wanting) =
-    (subst (IsMadeBy edit told) (sym wanting.1) tt, inl (by.0, by.1, shown-again (answer_to_outcome by.0) a b by.2 (inr wanting)))
-shown-answers told (Ok edit) a b (made, inr wanted) (inr wanting) = (subst (IsMadeBy edit told) (sym wanting.1) tt, inr wanting.1)
+pub shown-answers : (told : Option FrontState) (x : Ask) (a b : Answer) (here : List Said) → IsAnswerTo told x a here →
+    IsShownAs a b → IsAnswerTo told x b here
+shown-answers told (Err f) a b here answers (inl same) = subst (λ (c : Answer). IsAnswerTo told (Err f) c here) (sym same) answers
+shown-answers told (Err f) a b here answers (inr wanting) = (answers.0, inr wanting.1)
+shown-answers told (Ok edit) a b here answers (inl same) = subst (λ (c : Answer). IsAnswerTo told (Ok edit) c here) (sym same) answers
+shown-answers told (Ok edit) a b here (made, inl by) (inr wanting) = (
+  subst (IsMadeBy edit told) (sym wanting.1) tt,
+  inl (by.0, by.1, by.2, shown-again (answer_to_outcome by.0) a b by.3 (inr wanting)),
+)
+shown-answers told (Ok edit) a b here (made, inr wanted) (inr wanting) =
+    (subst (IsMadeBy edit told) (sym wanting.1) tt, inr (wanted.0, wanting.1))
 
 pub shown-within : (told : Option FrontState) (a b : Answer) → IsWithin told a → IsShownAs a b → IsWithin told b
 shown-within told a b within (inl same) = subst (IsWithin told) (sym same) within
@@ -105,33 +132,113 @@ shown-within told a b within (inr wanting) = subst (IsWithin told) (sym wanting.
 
 -- ---- lines that were served
 
-pub served-none : (store : Identity) (held : Option (List ℕ)) → IsServed store None [] held held
-served-none store held = record {
+pub served-none : (store : Identity) (was : List Said) (held : Option (List ℕ)) → IsServed store None [] was was held held
+served-none store was held = record {
   answers = [];
-  each = tt;
+  said = [];
+  each = refl;
+  heard = sym (append-nil was);
   written = Appends-nil held;
   within = λ k d below. absurd (omega (arith, below));
   ours = tt;
 }
 
-pub served-more : (store : Identity) (told more : Option FrontState) (asked : List Ask)
-    (before held then : Option (List ℕ)) (x : Ask) (a : Answer) → IsServed store told asked before held →
-    GoesOnFrom more told → IsAnswerTo more x a → IsWithin more a
-    → IfSome more (λ f. f.store ≡ store) → Appends held then (answer_text a ++ 10 ∷ []) → IsServed store more (asked ++ x ∷ []) before then
-served-more store told more asked before held then x a served less answers within ours written = record {
+pub served-more : (store : Identity) (told more : Option FrontState) (asked : List Ask) (was heard now here : List Said)
+    (before held then : Option (List ℕ)) (x : Ask) (a : Answer) → IsServed store told asked was heard before held →
+    GoesOnFrom more told → IsAnswerTo more x a here → IsWithin more a → IfSome more (λ f. f.store ≡ store) →
+    now ≡ heard ++ here → Appends held then (answer_text a ++ 10 ∷ []) → IsServed store more (asked ++ x ∷ []) was now before then
+served-more store told more asked was heard now here before held then x a served less answers within ours grown written = record {
   answers = served.answers ++ a ∷ [];
-  each = AreAnswersTo-push more asked served.answers x a (each-more told more asked served.answers less served.each) answers;
+  said = served.said ++ here;
+  each = AreAnswersTo-push more asked served.answers served.said x a here
+      (each-more told more asked served.answers served.said less served.each) answers;
+  heard = grown ∙ behind heard was served.said here served.heard;
   written = subst (Appends before then) (sym (texts_of-push served.answers a))
       (Appends-more before held then (texts_of served.answers) (answer_text a ++ 10 ∷ []) served.written written);
   within = All-push (IsWithin more) served.answers a (all_within-more told more served.answers less served.within) within;
   ours = ours;
 }
 
+-- ---- lines that were handed in
+
+one-handed : (told : Option FrontState) (x : Ask) (a : Answer) (here : List Said) → IsAnswerTo told x a here → IsHandedIn x here
+one-handed told (Ok edit) a here (made, inl by) = inr (by.0, by.1, by.2)
+one-handed told (Ok edit) a here (made, inr wanted) = inl wanted.0
+one-handed told (Err fault) a here answers = answers.0
+
+each-handed : (told : Option FrontState) (xs : List Ask) (bs : List Answer) (heard : List Said) →
+    AreAnswersTo told xs bs heard → AreHandedIn xs heard
+each-handed told [] [] heard each = each
+each-handed told [] (b ∷ bs) heard each = absurd each
+each-handed told (x ∷ xs) [] heard each = absurd each
+each-handed told (x ∷ xs) (b ∷ bs) heard each =
+    (each.0, each.1, each.2, one-handed told x b each.0 each.3, each-handed told xs bs each.1 each.4)
+
+pub served-handed : (store : Identity) (told : Option FrontState) (asked : List Ask) (was now : List Said)
+    (before held : Option (List ℕ)) → IsServed store told asked was now before held → HandsIn asked was now
+served-handed store told asked was now before held served = record {
+  said = served.said;
+  each = each-handed told asked served.answers served.said served.each;
+  heard = served.heard;
+}
+
+AreHandedIn-push : (xs : List Ask) (heard : List Said) (x : Ask) (here : List Said) → AreHandedIn xs heard → IsHandedIn x here →
+    AreHandedIn (xs ++ x ∷ []) (heard ++ here)
+AreHandedIn-push [] heard x here each one = (here, [], last heard here each, one, refl)
+AreHandedIn-push (y ∷ xs) heard x here each one = (
+  each.0,
+  each.1 ++ here,
+  behind heard each.0 each.1 here each.2,
+  each.3,
+  AreHandedIn-push xs each.1 x here each.4 one,
+)
+
+pub handed-more : (asked : List Ask) (was heard now here : List Said) (x : Ask) → HandsIn asked was heard → IsHandedIn x here →
+    now ≡ heard ++ here → HandsIn (asked ++ x ∷ []) was now
+handed-more asked was heard now here x handed one grown = record {
+  said = handed.said ++ here;
+  each = AreHandedIn-push asked handed.said x here handed.each one;
+  heard = grown ∙ behind heard was handed.said here handed.heard;
+}
+
+-- what is asked later hands in nothing
+none-handed : (x : Ask) → IsHandedIn x []
+none-handed (Ok edit) = inl refl
+none-handed (Err fault) = refl
+
+AreHandedIn-none : (ys : List Ask) → AreHandedIn ys []
+AreHandedIn-none [] = refl
+AreHandedIn-none (y ∷ ys) = ([], [], refl, none-handed y, AreHandedIn-none ys)
+
+AreHandedIn-later : (xs ys : List Ask) (heard : List Said) → AreHandedIn xs heard → AreHandedIn (xs ++ ys) heard
+AreHandedIn-later [] ys heard each = subst (AreHandedIn ys) (sym each) (AreHandedIn-none ys)
+AreHandedIn-later (x ∷ xs) ys heard each = (each.0, each.1, each.2, each.3, AreHandedIn-later xs ys each.1 each.4)
+
+pub handed-later : (asked later all : List Ask) (was now : List Said) → asked ++ later ≡ all → HandsIn asked was now → HandsIn all was now
+handed-later asked later all was now part handed = record {
+  said = handed.said;
+  each = subst (λ (a : List Ask). AreHandedIn a handed.said) part (AreHandedIn-later asked later handed.said handed.each);
+  heard = handed.heard;
+}
+
+-- nothing was handed in
+pub handed-none : (asks : List Ask) (was : List Said) → HandsIn asks was was
+handed-none asks was = record { said = []; each = AreHandedIn-none asks; heard = sym (append-nil was) }
+
 -- ---- a source that was asked
 
 -- what it was asked so far, and how that was answered
 pub record IsUnderWay {A S : Type 0} (asks : A → S → List Ask → Type 0) (first : A) (at_first : S) (source : A)
-    (stream : S) (store : Identity) (told : Option FrontState) (before held : Option (List ℕ)) : Type 0 where
+    (stream : S) (store : Identity) (told : Option FrontState) (was now : List Said) (before held : Option (List ℕ)) : Type 0 where
   pub asked : List Ask
   pub came : HasAsked asks first at_first source stream asked
-  pub served : IsServed store told asked before held
+  pub served : IsServed store told asked was now before held
+
+-- so nothing is handed in but what is asked
+pub under-way-handed : {A S : Type 0} (asks : A → S → List Ask → Type 0) (first : A) (at_first : S) (source : A) (stream : S)
+    (store : Identity) (told : Option FrontState) (was now : List Said) (before held : Option (List ℕ)) →
+    IsUnderWay asks first at_first source stream store told was now before held →
+    (all : List Ask) → asks first at_first all → HandsIn all was now
+under-way-handed asks first at_first source stream store told was now before held way all a =
+    let came = way.came all a in
+    handed-later way.asked came.0 all was now came.1 (served-handed store told way.asked was now before held way.served)

@@ -73,6 +73,7 @@ only_refuses (flags.no_edit f) = true
 only_refuses flags.out_of_memory = true
 only_refuses flags.store_failed = false
 
+-- whether memory may be wanting to tell it
 abbrev pub may_want : Answer → Bool
 may_want (reply r) = only_refuses r
 may_want queue_full = false

@@ -10,13 +10,14 @@ ghost use Rattle.fp_session.specs.Reply.{reply_of_code};
 ghost use Rattle.fp_conversations.specs.Answers as answers;
 ghost use Rattle.fp_conversations.specs.Answers.{IsSaid, only_refuses, answer_of_code, answer_to_refusal};
 ghost use Rattle.fp_conversations.specs.Outcomes.{ComesTo, IsOutcomeOf, IsToldBy, IsToldOf};
-ghost use Rattle.fp_conversations.specs.Outcomes.{answer_to_line, answer_to_outcome, told_of};
+ghost use Rattle.fp_conversations.specs.Outcomes.{answer_to_line, answer_to_outcome};
+ghost use Rattle.fp_conversations.specs.Outcomes.{said_by, said_of, told_of};
 
 use fp_desk::{SubmitFault, Ticket};
 use fp_disk::Disk;
 use fp_edit::{Edit, EditFault, LineFault};
 use fp_group_commit::Told;
-use fp_plane::{GivenUp, Naming, Refusal, SealingPlane};
+use fp_plane::{Editing, GivenUp, Naming, Refusal};
 use fp_session::Reply;
 use fp_streams::{FailureCounted, StreamFault};
 use log::Log;
@@ -76,7 +77,7 @@ enum Answer {
 
 /// Answers what a line asks, and gives what it came to: the answer is made of that alone.
 pub fn answer_line<K, D, R, O>(
-    plane: &SealingPlane<K, D, R>,
+    editing: &mut Editing<'_, K, D, R>,
     alloc: Global,
     asked: Result<Edit, LineFault>,
     w: &mut FailureCounted<O>,
@@ -90,34 +91,40 @@ where
     ensures own { ComesTo asked result.0 }
     // What was told is of the plane's store, and has its ticket's revision, which its edit made.
     ensures ours { IsToldOf K.store result.0 }
+    // What the hall said of it is all that was said to the editor.
+    ensures said { editing.new ≡ editing.old ++ said_of result.0 }
     // `Ok`: the answer to it was written.
     ensures sent { OnOk result.1 (IsSaid (answer_to_line result.0)
         (O.contents w.old.inner) (O.contents w.new.inner)) }
     ensures fault { IfErr result.1 (λ f. f ≡ Device) }
     ensures counted { CountsFailures w.old.failures w.new.failures result.1 }
 {
-    let answered = answer_to(plane, asked);
+    let answered = answer_to(editing, asked);
     let sent = send_answered(alloc, w, &answered);
     (answered, sent)
 }
 
 // What a line that asks this comes to.
-fn answer_to<K, D, R>(plane: &SealingPlane<K, D, R>, asked: Result<Edit, LineFault>) -> Answered
+fn answer_to<K, D, R>(
+    editing: &mut Editing<'_, K, D, R>,
+    asked: Result<Edit, LineFault>,
+) -> Answered
 where
     K: Naming,
     D: Disk + Drop,
     R: Wait + Clock + Log + Drop,
     ensures own { ComesTo asked result }
     ensures ours { IsToldOf K.store result }
+    ensures said { editing.new ≡ editing.old ++ said_of result }
 {
     match asked {
-        Ok(edit) => Answered::Edit(outcome_of(plane, edit)),
+        Ok(edit) => Answered::Edit(outcome_of(editing, edit)),
         Err(fault) => Answered::NoEdit(Reply::NoEdit(fault)),
     }
 }
 
 // Waits for what becomes of an edit.
-fn outcome_of<K, D, R>(plane: &SealingPlane<K, D, R>, edit: Edit) -> Outcome
+fn outcome_of<K, D, R>(editing: &mut Editing<'_, K, D, R>, edit: Edit) -> Outcome
 where
     K: Naming,
     D: Disk + Drop,
@@ -128,12 +135,14 @@ where
     // Where it is kept, what is told is of the plane's store and has its ticket's revision, which
     // its edit made.
     ensures ours { IsToldBy K.store result }
+    // It is what the hall said to the editor.
+    ensures said { editing.new ≡ editing.old ++ said_by result }
 {
-    let ticket = match plane.submit(edit) {
+    let ticket = match editing.submit(edit) {
         Ok(ticket) => ticket,
         Err((refusal, _)) => return Outcome::Refused(refusal),
     };
-    match plane.plane().wait(ticket) {
+    match editing.wait(ticket) {
         Ok((ticket, told, _)) => Outcome::Kept(ticket, told),
         Err(given_up) => Outcome::Unknown(given_up),
     }

@@ -11,8 +11,8 @@ ghost use Rattle.fp_conversations.specs.Editing.{GoesOnFrom};
 ghost use Rattle.fp_conversations.specs.Sending.{IsCause, IsSent, Serves};
 ghost use Rattle.fp_conversations.specs.declared.subscriber.SubscriberFault.TheVariants as fault;
 
-use fp_plane::{Gone, Naming, Plane};
-use fp_publish::{Seat, Shown};
+use fp_plane::{Gone, Naming, Plane, TakenSeat};
+use fp_publish::Shown;
 use fp_stream::{HelloFault, MOST_BODY, read_hello, write_frame};
 use fp_streams::{FailureCounted, StreamFault, WriteGathered};
 use std::io::Read;
@@ -94,7 +94,7 @@ where
 // keeps the most that was shown of them.
 fn serve_seat<K, R, O, G>(
     plane: &Plane<K, R>,
-    seat: &mut Seat,
+    seat: &mut TakenSeat<K>,
     w: &mut FailureCounted<O>,
     has_left: &G,
     shown: &mut Option<Shown>,

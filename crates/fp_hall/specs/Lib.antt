@@ -1,2 +1,4 @@
+pub mod Numbers
 pub mod Places
 pub mod Hall
+pub mod Editors

@@ -1,6 +1,6 @@
 //! What a plane's lock keeps.
 
-ghost use Rattle.std.specs.Prelude.{◌≡◌, ◌⊎◌, ◌<◌, ◌≤◌, ◌+◌, [], true};
+ghost use Rattle.std.specs.Prelude.{◌≡◌, ◌⊎◌, ◌<◌, ◌≤◌, ◌+◌, ◌++◌, ◌∷◌, [], true};
 ghost use Rattle.std.specs.Prelude.{◌≢◌, length, IfOk, IfErr, IfNone, IfSome, OnOk, OnErr};
 ghost use Rattle.std.specs.Prelude.{MatchOption, MatchResult, All, vec_len, ◌||◌};
 ghost use Rattle.fp_edit.specs.Edits.{change_in, proposal_of};
@@ -14,11 +14,16 @@ ghost use Rattle.fp_publish.specs.declared.board.TheConstants.{MOST_EVALUATORS};
 ghost use Rattle.std.specs.Vec.{vec_capacity};
 ghost use Rattle.fp_hall.specs.Hall.{IsAtRest, IsDeskOf, IsNew, IsNewDesk, IsOver, IsStoreOf};
 ghost use Rattle.fp_hall.specs.Hall.{IsUnanswered, SealsNoMore, desk_of, settled_by};
+ghost use Rattle.fp_hall.specs.Editors.{said_at};
+ghost use Rattle.fp_hall.specs.Numbers.{most_evaluators};
+ghost use Rattle.fp_hall.specs.declared.editor.Said.TheVariants as said;
 ghost use Rattle.fp_hall.specs.Places.{StandsAt};
 
+mod ending;
 mod lending;
 mod tokens;
 
+use crate::editor::Editor;
 use crate::naming::Naming;
 use crate::own_board::OwnBoard;
 use crate::ticket::{Accepted, PlaneTicket};
@@ -28,11 +33,12 @@ use fp_edit::Edit;
 use fp_fronts::Growing;
 use fp_group_commit::Told;
 use fp_publish::{Evaluator, MOST_EVALUATORS, Seats, Shown};
+pub use lending::TakenSeat;
 use std::alloc::{AllocError, Global};
 use std::marker::{Model, PhantomData};
 use std::snapshot::Snapshot;
 use std::sync::Wait;
-pub use tokens::{AllSettled, GivenUp, Gone, Refusal, Staying};
+pub use tokens::{AllSettled, Closer, GivenUp, Gone, Refusal, Staying};
 
 /// Somebody has each evaluator.
 #[derive(Debug, Drop, Clone, Copy, PartialEq, Eq)]
@@ -113,13 +119,14 @@ fn evaluators<R: Wait + Drop>(
 }
 
 impl<K: Naming, R: Wait + Drop> Hall<K, R> {
-    /// A hall over the desk's half of the committer that it is of. Nothing was accepted yet.
+    /// A hall over the desk's half of the committer that it is of, and what alone closes it. Nothing
+    /// was accepted yet.
     pub fn new(
         rt: R,
         alloc: Global,
         desk: DeskHalf,
         accepted: Growing<Accepted>,
-    ) -> Result<Hall<K, R>, AllocError>
+    ) -> Result<(Hall<K, R>, Closer<K>), AllocError>
         // The half is the desk's of the committer that `K` names.
         requires ours { IsDeskOf K.store K.desk_lists K.store_lists desk }
         // No edit was handed in yet.
@@ -129,13 +136,13 @@ impl<K: Naming, R: Wait + Drop> Hall<K, R> {
         requires none { accepted.log ≡ [] }
         // `Ok`: nothing was accepted, no seat is taken, and nothing broke off, closed or ended.
         // The set that the store began with is shown.
-        ensures new { IfOk result (IsNew K.store) }
+        ensures new { IfOk result (λ p. IsNew K.store p.0) }
         // `Ok`: nobody has any of the 16 evaluators.
-        ensures all { IfOk result (λ h. length h.idle ≡ MOST_EVALUATORS) }
+        ensures all { IfOk result (λ p. length p.0.idle ≡ most_evaluators) }
     {
         let mut board = OwnBoard::new(rt, alloc, desk.desk())?;
         let idle = evaluators(alloc, &mut board)?;
-        Ok(Hall {
+        let hall = Hall {
             desk,
             accepted,
             board,
@@ -147,13 +154,19 @@ impl<K: Naming, R: Wait + Drop> Hall<K, R> {
             looks: 0,
             alloc,
             of: PhantomData,
-        })
+        };
+        Ok((hall, Closer { of: PhantomData }))
     }
 
     // ---- editors
 
-    /// Puts an edit behind those that wait, as `Desk::submit` does.
-    pub fn submit(&mut self, edit: Edit) -> Result<PlaneTicket<K>, (Refusal, Edit)>
+    /// Puts an edit behind those that wait, as `Desk::submit` does, and says to its editor what
+    /// became of that.
+    pub fn submit(
+        &mut self,
+        edit: Edit,
+        editor: &mut Editor,
+    ) -> Result<PlaneTicket<K>, (Refusal, Edit)>
         // `Ok`: as of `Desk::submit`: not stopped, admitted by the head, fewer than 1,024 not
         // settled, and it stands behind those that wait.
         ensures accepted { OnOk result (IsAccepted self.old.desk self.new.desk (proposal_of edit)) }
@@ -168,15 +181,28 @@ impl<K: Naming, R: Wait + Drop> Hall<K, R> {
             × Refuses self.old.desk (proposal_of edit) e.0.fault) }
         // `Err`: the edit comes back.
         ensures given_back { IfErr result (λ e. e.1 ≡ edit) }
+        // The editor is said that it is taken, or why it isn't, and nothing else.
+        ensures said { editor.new ≡ editor.old ++ said_at result ∷ [] }
         // An `Err` changes nothing.
         ensures unchanged { OnErr result (self.new ≡ self.old) }
         // Nothing but the desk changes.
         ensures rest { self.new ≡ record self.old { desk = self.new.desk } }
     {
-        let shown = Snapshot::of(&edit);
+        let handed_in = Snapshot::of(&edit);
         match self.desk.submit(edit) {
-            Ok(ticket) => Ok(PlaneTicket::of(ticket, &shown, &mut self.accepted)),
-            Err((fault, edit)) => Err((Refusal { fault, edit: shown }, edit)),
+            Ok(ticket) => {
+                let ticket = PlaneTicket::of(ticket, &handed_in, &mut self.accepted);
+                editor.hear_taken(&ticket);
+                Ok(ticket)
+            }
+            Err((fault, edit)) => {
+                let refusal = Refusal {
+                    fault,
+                    edit: handed_in,
+                };
+                editor.hear_refused(&refusal);
+                Err((refusal, edit))
+            }
         }
     }
 
@@ -193,8 +219,7 @@ impl<K: Naming, R: Wait + Drop> Hall<K, R> {
         // `None` only where the edit isn't settled, or what is settled isn't shown. Else the
         // settled front and the one that is shown.
         ensures fronts { MatchOption result
-            ((settled_revision self.now.desk < ticket.now.revision)
-            ⊎ (front_revision self.now.shown < settled_revision self.now.desk))
+            (IsUnanswered self.now ticket.now.revision)
             (λ p. (p.0 ≡ settled_front self.now.desk) × (p.1 ≡ self.now.shown)) }
     {
         ticket.stands_in(&self.accepted);
@@ -203,8 +228,13 @@ impl<K: Naming, R: Wait + Drop> Hall<K, R> {
         Some((told, shown))
     }
 
-    /// Gives a ticket up, or hands it back where something may still become of its edit.
-    pub fn give_up(&self, ticket: PlaneTicket<K>) -> Result<GivenUp, PlaneTicket<K>>
+    /// Gives a ticket up, and says that to its editor; or hands it back where something may still
+    /// become of its edit.
+    pub fn give_up(
+        &self,
+        ticket: PlaneTicket<K>,
+        editor: &mut Editor,
+    ) -> Result<GivenUp, PlaneTicket<K>>
         // `Ok`: no edit is settled any more, and the ticket's isn't settled, or what is settled
         // isn't shown.
         ensures given_up { OnOk result (IsOver self.now × IsUnanswered self.now ticket.revision) }
@@ -213,10 +243,15 @@ impl<K: Naming, R: Wait + Drop> Hall<K, R> {
             ((IsOver self.now → ⊥) ⊎ (IsUnanswered self.now ticket.revision → ⊥)) }
         // It is this ticket, either way.
         ensures same { MatchResult result (λ g. g ≡ ticket) (λ t. t ≡ ticket) }
+        // `Ok`: the editor is said so. `Err`: nothing is said.
+        ensures said { MatchResult result (λ g. editor.new ≡ editor.old ++ said.Unknown g ∷ [])
+            (λ _. editor.new ≡ editor.old) }
     {
         if self.is_over() && self.answer(&ticket).is_none() {
             let ticket = ticket.into_ticket();
-            Ok(GivenUp { ticket })
+            let given_up = GivenUp { ticket };
+            editor.hear_unknown(&given_up);
+            Ok(given_up)
         } else {
             Err(ticket)
         }
@@ -335,46 +370,5 @@ impl<K: Naming, R: Wait + Drop> Hall<K, R> {
         ensures reached { IfSome result (λ s. front_revision told.now ≤ front_revision s) }
     {
         self.board.shown(told)
-    }
-
-    /// No edit is taken any more, and the plane is to stop. What waits goes on.
-    pub fn close(&mut self)
-        ensures { self.new ≡ record self.old {
-          desk = record self.old.desk { stopped = true };
-          closing = true;
-        } }
-    {
-        self.desk.stop();
-        self.is_closing = true;
-    }
-
-    /// No batch is drawn any more, since nothing waits. So the flusher ends a plane that is to
-    /// stop.
-    pub fn end(&mut self) -> AllSettled
-        // The plane is to stop.
-        requires closing { self.old.closing ≡ true }
-        // Nothing is drawn, and nothing waits.
-        requires settled { (self.old.desk.drawn ≡ []) × (self.old.desk.waiting ≡ []) }
-        ensures { self.new ≡ record self.old { ended = true } }
-    {
-        self.has_ended = true;
-        AllSettled { of: () }
-    }
-
-    /// No batch is drawn any more, since sealing by this half broke off. No edit is taken any more.
-    pub fn break_off<D: Disk>(&mut self, _half: &StoreHalf<D>)
-        // The half is the store's of the committer that the hall is of,
-        requires ours { IsStoreOf K.store K.desk_lists K.store_lists _half.now }
-        // and it seals nothing any more.
-        requires cause { SealsNoMore D.Disk _half.now }
-        ensures { self.new ≡ record self.old {
-          desk = record self.old.desk { stopped = true };
-          failed = true;
-          ended = true;
-        } }
-    {
-        self.desk.stop();
-        self.has_failed = true;
-        self.has_ended = true;
     }
 }

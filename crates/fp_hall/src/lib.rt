@@ -2,11 +2,15 @@
 //! what is lent of them.
 #![tactic(auto)]
 
+mod editor;
 mod hall;
 mod naming;
 mod own_board;
 mod ticket;
 
-pub use hall::{AllSettled, EvaluatorsUsed, GivenUp, Gone, Hall, Refusal, Staying};
+pub use editor::{Editor, Said};
+pub use hall::{
+    AllSettled, Closer, EvaluatorsUsed, GivenUp, Gone, Hall, Refusal, Staying, TakenSeat,
+};
 pub use naming::Naming;
 pub use ticket::{Accepted, PlaneTicket};

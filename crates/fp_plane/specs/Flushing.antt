@@ -53,6 +53,10 @@ pub record PaysEach {D : Type 0} (disk : Ghosts D) (owed : Bool) (a b : StoreHal
   pub turns : List (Turn D)
   pub each : Turns disk paid turns b
 
+-- why sealing breaks off: the device failed, or there is no room for what was drawn
+abbrev pub HasBroken : {D : Type 0} → Ghosts D → (before after : D) → StoreHalfState D → Type 0
+HasBroken disk before after last = (disk.faults before < disk.faults after) ⊎ LacksRoom disk last
+
 -- It began with one half and ended with the other, by a course of batches, settlements and steps of
 -- compactions between them: whatever a crash leaves at any moment of it stands for some first edits
 -- that were drawn, among them all that were settled by then. It broke off only where the device
@@ -71,5 +75,4 @@ pub record Flushes {D : Type 0} (disk : Ghosts D) (first last : StoreHalfState D
   pub no_failure : OnOk ended (disk.faults last.store.disk ≡ disk.faults first.store.disk)
   -- It broke off only where a call of the disk failed, or where no generation is left to make
   -- room for what is drawn, and H: no crash state has room for it.
-  pub cause : OnErr ended ((disk.faults first.store.disk < disk.faults last.store.disk)
-      ⊎ LacksRoom disk last)
+  pub cause : OnErr ended (HasBroken disk first.store.disk last.store.disk last)

@@ -1,12 +1,12 @@
 -- The store's half of a plane, where nobody seals.
-use Rattle.std.specs.Prelude.{◌≡◌, ◌⊎◌, ◌<◌, ◌∷◌, [], Bool, true, false, List}
+use Rattle.std.specs.Prelude.{◌≡◌, ◌∷◌, [], Bool, true, false, List}
 use Rattle.fp_disk.specs.Crashes.{EachCrash}
 use Rattle.fp_disk.specs.declared.disk.Disk.{Ghosts}
-use Rattle.fp_committer.specs.Course.{Course, LacksRoom}
+use Rattle.fp_committer.specs.Course.{Course}
 use Rattle.fp_committer.specs.Halves.{Names}
 use Rattle.fp_committer.specs.StoreHalf.{KeptBy, StoreHalfState}
 use Rattle.fp_group_commit.specs.Tokens.{Identity}
-use Rattle.fp_plane.specs.Flushing.{IsResting}
+use Rattle.fp_plane.specs.Flushing.{HasBroken, IsResting}
 use Rattle.fp_hall.specs.Hall.{IsStoreOf}
 
 -- what who takes its lock finds: the half, whether sealing broke off, whether whoever was told last
@@ -29,5 +29,4 @@ pub record IsLeft {D : Type 0} (disk : Ghosts D) (store : Identity) (desk_lists 
   pub ours : IsStoreOf store desk_lists store_lists half
   pub rest : broken ≡ false → IsResting half
   pub no_failure : broken ≡ false → disk.faults half.store.disk ≡ disk.faults first.store.disk
-  pub cause : broken ≡ true →
-      (disk.faults first.store.disk < disk.faults half.store.disk) ⊎ LacksRoom disk half
+  pub cause : broken ≡ true → HasBroken disk first.store.disk half.store.disk half

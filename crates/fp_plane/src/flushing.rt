@@ -3,14 +3,16 @@
 //! Behind each batch a step of a compaction is owed: who draws one owes it, and nobody draws while
 //! one is owed.
 
-ghost use Rattle.std.specs.Prelude.{◌≡◌, ◌⊎◌, ◌<◌, ◌≤◌, ◌∷◌, [], true, false, IfErr, IfOk, OnErr};
+ghost use Rattle.std.specs.Prelude.{◌≡◌, ◌⊎◌, ◌<◌, ◌≤◌, ◌++◌, ◌∷◌, [], true, false, IfErr, IfOk, OnErr};
 ghost use Rattle.std.specs.Prelude.{OnOk};
 ghost use Rattle.fp_edit.specs.Edits.{proposal_of};
-ghost use Rattle.fp_committer.specs.Course.{Course, LacksRoom};
+ghost use Rattle.fp_committer.specs.Course.{Course};
 ghost use Rattle.fp_committer.specs.StoreHalf.{StoreHalfState};
 ghost use Rattle.fp_committer.specs.Way.{batch_drawn, batch_sealed};
 ghost use Rattle.fp_group_commit.specs.Tokens.{front_revision};
-ghost use Rattle.fp_plane.specs.Flushing.{Flushes, IsResting, PaysEach, StepsWhereDue};
+ghost use Rattle.fp_plane.specs.Flushing.{Flushes, HasBroken, IsResting, PaysEach};
+ghost use Rattle.fp_plane.specs.Flushing.{StepsWhereDue};
+ghost use Rattle.fp_hall.specs.Editors.{said_at};
 ghost use Rattle.fp_hall.specs.Hall.{IsStoreOf, SealsNoMore, settled_by};
 ghost use Rattle.fp_plane.specs.declared.flushing.Lull.TheVariants.{Alone};
 
@@ -24,7 +26,7 @@ use fp_committer::{CommitFault, StoreHalf};
 use fp_disk::Disk;
 use fp_edit::Edit;
 use fp_fronts::Front;
-use fp_hall::{AllSettled, Hall, Naming, PlaneTicket, Refusal};
+use fp_hall::{AllSettled, Editor, Hall, Naming, PlaneTicket, Refusal};
 use fp_log::{Event, tell};
 use fp_publish::Shown;
 use log::Log;
@@ -104,8 +106,8 @@ where
     ensures rest { OnOk result (IsResting half.new) }
     ensures no_failure { OnOk result
         (D.faults half.new.store.disk ≡ D.faults half.old.store.disk) }
-    ensures cause { OnErr result ((D.faults half.old.store.disk < D.faults half.new.store.disk)
-        ⊎ LacksRoom D.Disk half.new) }
+    ensures cause { OnErr result
+        (HasBroken D.Disk half.old.store.disk half.new.store.disk half.new) }
     ensures broken { OnErr result (SealsNoMore D.Disk half.new) }
     ensures alone { IfOk result (λ p. p ≡ Alone → gathering.new.alone ≡ true) }
     // The step that is owed is taken first, and one at the end of each turn.
@@ -135,6 +137,7 @@ pub(crate) fn submit_and_flush<K, D, R>(
     gathering: &mut Gathering,
     owes_step: &mut bool,
     edit: Edit,
+    editor: &mut Editor,
 ) -> (
     Result<PlaneTicket<K>, (Refusal, Edit)>,
     Result<(), UntoldFailure>,
@@ -149,17 +152,18 @@ where
     ensures refused { IfErr result.0 (λ e. e.0.edit ≡ proposal_of edit) }
     ensures ticket { IfOk result.0 (λ t. (t.store ≡ K.store) × (t.edit ≡ proposal_of edit)) }
     ensures given_back { IfErr result.0 (λ e. e.1 ≡ edit) }
+    ensures said { editor.new ≡ editor.old ++ said_at result.0 ∷ [] }
     ensures course { Course D.Disk half.old half.new }
     ensures rest { OnOk result.1 (IsResting half.new) }
     ensures no_failure { OnOk result.1
         (D.faults half.new.store.disk ≡ D.faults half.old.store.disk) }
-    ensures cause { OnErr result.1 ((D.faults half.old.store.disk < D.faults half.new.store.disk)
-        ⊎ LacksRoom D.Disk half.new) }
+    ensures cause { OnErr result.1
+        (HasBroken D.Disk half.old.store.disk half.new.store.disk half.new) }
     ensures broken { OnErr result.1 (SealsNoMore D.Disk half.new) }
     // Nothing is drawn without a step that is owed behind it.
     ensures owes { owes_step.new ≡ false → half.new ≡ half.old }
 {
-    let (submitted, drawn) = plane.submit_and_draw(edit, half, owes_step);
+    let (submitted, drawn) = plane.submit_and_draw(edit, editor, half, owes_step);
     if !drawn {
         return (submitted, Ok(()));
     }
@@ -188,8 +192,8 @@ where
     ensures shown { IfOk result (λ s. settled_by half.new ≤ front_revision s) }
     ensures no_failure { OnOk result
         (D.faults half.new.store.disk ≡ D.faults half.old.store.disk) }
-    ensures cause { OnErr result ((D.faults half.old.store.disk < D.faults half.new.store.disk)
-        ⊎ LacksRoom D.Disk half.new) }
+    ensures cause { OnErr result
+        (HasBroken D.Disk half.old.store.disk half.new.store.disk half.new) }
     ensures broken { OnErr result (SealsNoMore D.Disk half.new) }
 {
     let before = Seen::of(half.store());
@@ -215,8 +219,8 @@ fn seal<D: Disk, R: Wait + Clock + Log>(
         × (half.new.store.failed ≡ false)) }
     ensures no_failure { OnOk result
         (D.faults half.new.store.disk ≡ D.faults half.old.store.disk) }
-    ensures cause { OnErr result ((D.faults half.old.store.disk < D.faults half.new.store.disk)
-        ⊎ LacksRoom D.Disk half.new) }
+    ensures cause { OnErr result
+        (HasBroken D.Disk half.old.store.disk half.new.store.disk half.new) }
     ensures broken { OnErr result (SealsNoMore D.Disk half.new) }
 {
     let mut retries = Retries::of("batch");

@@ -1,11 +1,12 @@
 //! The store's half of a plane where nobody seals, and who seals by it.
 
-ghost use Rattle.std.specs.Prelude.{◌≡◌, ◌∷◌, [], true, false, is_err, IfOk, IfErr, IfNone, IfSome};
-ghost use Rattle.std.specs.Prelude.{OnOk};
+ghost use Rattle.std.specs.Prelude.{◌≡◌, ◌++◌, ◌∷◌, [], true, false, is_err, IfOk, IfErr};
+ghost use Rattle.std.specs.Prelude.{IfNone, IfSome, OnOk};
 ghost use Rattle.fp_edit.specs.Edits.{proposal_of};
 ghost use Rattle.fp_committer.specs.StoreHalf.{StoreHalfState};
 ghost use Rattle.fp_committer.specs.Course.{Course};
 ghost use Rattle.fp_plane.specs.Flushing.{Flushes, IsResting, PaysEach, PaysFirst, StepsWhereDue};
+ghost use Rattle.fp_hall.specs.Editors.{said_at};
 ghost use Rattle.fp_hall.specs.Hall.{IsStoreOf};
 
 use crate::flushing::{
@@ -18,7 +19,7 @@ use fp_committer::StoreHalf;
 use fp_disk::Disk;
 use fp_edit::Edit;
 use fp_fronts::{Front, Growing, Lists};
-use fp_hall::{AllSettled, Naming, PlaneTicket, Refusal};
+use fp_hall::{AllSettled, Editor, Naming, PlaneTicket, Refusal};
 use log::Log;
 use std::marker::{Model, PhantomData};
 use std::sync::Wait;
@@ -115,26 +116,28 @@ impl<K: Naming, D: Disk + Drop> Lying<K, D> {
         &mut self,
         plane: &Plane<K, R>,
         edit: Edit,
+        editor: &mut Editor,
     ) -> Result<PlaneTicket<K>, (Refusal, Edit)>
     where
         R: Wait + Clock + Log + Drop,
         ensures refused { IfErr result (λ e. e.0.edit ≡ proposal_of edit) }
         ensures ticket { IfOk result (λ t. (t.store ≡ K.store) × (t.edit ≡ proposal_of edit)) }
         ensures given_back { IfErr result (λ e. e.1 ≡ edit) }
+        ensures said { editor.new ≡ editor.old ++ said_at result ∷ [] }
         ensures others { self.old.alone ≡ false → self.new ≡ self.old }
         ensures broken { self.old.broken ≡ true → self.new ≡ self.old }
         // The step that was owed is taken before it seals.
         ensures step { self.old.alone ≡ true → self.old.broken ≡ false → self.new.broken ≡ false
             → PaysFirst D.Disk self.old.owes_step self.old.half self.new.half }
-        // An editor that sealed owes a step.
+        // An editor that handed its edit in owes a step, also where there was no memory to draw it.
         ensures owes { OnOk result (self.old.alone ≡ true → self.old.broken ≡ false
             → self.new.owes_step ≡ true) }
     {
         if self.broken.is_some() || !self.gathering.is_alone() {
-            return plane.submit(edit);
+            return plane.submit(edit, editor);
         }
         self.go_on(plane);
-        let submitted = self.seal(plane, edit);
+        let submitted = self.seal(plane, edit, editor);
         if submitted.is_ok() {
             self.owes_step = true;
         }
@@ -147,6 +150,7 @@ impl<K: Naming, D: Disk + Drop> Lying<K, D> {
         &mut self,
         plane: &Plane<K, R>,
         edit: Edit,
+        editor: &mut Editor,
     ) -> Result<PlaneTicket<K>, (Refusal, Edit)>
     where
         R: Wait + Clock + Log + Drop,
@@ -154,11 +158,12 @@ impl<K: Naming, D: Disk + Drop> Lying<K, D> {
         ensures refused { IfErr result (λ e. e.0.edit ≡ proposal_of edit) }
         ensures ticket { IfOk result (λ t. (t.store ≡ K.store) × (t.edit ≡ proposal_of edit)) }
         ensures given_back { IfErr result (λ e. e.1 ≡ edit) }
+        ensures said { editor.new ≡ editor.old ++ said_at result ∷ [] }
         ensures broken { self.old.broken ≡ true → self.new ≡ self.old }
         ensures course { self.old.broken ≡ false → Course D.Disk self.old.half self.new.half }
     {
         if self.broken.is_some() {
-            return plane.submit(edit);
+            return plane.submit(edit, editor);
         }
         let (submitted, ended) = submit_and_flush(
             plane,
@@ -166,6 +171,7 @@ impl<K: Naming, D: Disk + Drop> Lying<K, D> {
             &mut self.gathering,
             &mut self.owes_step,
             edit,
+            editor,
         );
         match ended {
             Ok(()) => {}

@@ -2,6 +2,7 @@
 #![tactic(auto)]
 
 mod bells;
+mod editing;
 mod evaluating;
 mod flushing;
 mod gathering;
@@ -13,10 +14,12 @@ mod sealing;
 mod telling;
 mod turns;
 
+pub use editing::Editing;
 pub use evaluating::Evaluating;
 pub use flushing::{Broken, Flushed, flusher};
 pub use fp_hall::{
-    Accepted, AllSettled, EvaluatorsUsed, GivenUp, Gone, Hall, Naming, PlaneTicket, Refusal,
+    Accepted, AllSettled, Closer, Editor, EvaluatorsUsed, GivenUp, Gone, Hall, Naming, PlaneTicket,
+    Refusal, Said, TakenSeat,
 };
 pub use owned::OwnHalf;
 pub use plane::Plane;

@@ -6,14 +6,16 @@
 //! condition for all. Where memory is wanting, what is under way is
 //! tried again after a millisecond, without the lock.
 
-ghost use Rattle.std.specs.Prelude.{◌≡◌, ◌≤◌, [], true, None, IfOk, IfErr, MatchResult};
+ghost use Rattle.std.specs.Prelude.{◌≡◌, ◌≤◌, ◌++◌, ◌∷◌, [], true, None, IfOk, IfErr, MatchResult};
 ghost use Rattle.fp_edit.specs.Edits.{change_in, proposal_of};
 ghost use Rattle.fp_group_commit.specs.Tokens.{front_revision};
 ghost use Rattle.fp_publish.specs.Fronts.{Begins};
 ghost use Rattle.fp_publish.specs.Seats.{IsNews, had_by};
 ghost use Rattle.fp_stream.specs.declared.hello.Hello.TheVariants.{Has};
+ghost use Rattle.fp_hall.specs.Editors.{said_at};
 ghost use Rattle.fp_hall.specs.Hall.{IsDeskOf, IsNewDesk};
 ghost use Rattle.fp_hall.specs.Places.{StandsAt};
+ghost use Rattle.fp_hall.specs.declared.editor.Said.TheVariants.{Unknown};
 
 use crate::bells::Bells;
 use crate::evaluating::{Evaluating, Evaluations};
@@ -22,8 +24,11 @@ use fp_desk::Ticket;
 use fp_edit::Edit;
 use fp_fronts::Growing;
 use fp_group_commit::Told;
-use fp_hall::{Accepted, EvaluatorsUsed, GivenUp, Gone, Hall, Naming, PlaneTicket, Refusal};
-use fp_publish::{Evaluator, Handed, Seat, SeatsUsed, Shown};
+use fp_hall::{
+    Accepted, Closer, Editor, EvaluatorsUsed, GivenUp, Gone, Hall, Naming, PlaneTicket, Refusal,
+    TakenSeat,
+};
+use fp_publish::{Evaluator, Handed, SeatsUsed, Shown};
 use fp_stream::Hello;
 use std::alloc::{AllocError, Global};
 use std::mem;
@@ -39,7 +44,7 @@ pub(crate) struct Shared<K: Naming, R: Wait + Drop> {
     // How many edits waited when one was handed in or a batch drawn last: a hint, read without the
     // hall's lock by a flusher that lets editors come back.
     pub(crate) waiting: AtomicUsize,
-    // For the flusher: an edit waits, or the plane is to stop.
+    // For the flusher: an edit waits, or the plane is to stop or is over.
     pub(crate) work: Condvar,
     // For editors: the edit of a revision was settled and shown, or the plane is over.
     pub(crate) bells: Bells,
@@ -64,14 +69,14 @@ pub struct Plane<K: Naming, R: Wait + Drop> {
 }
 
 impl<K: Naming, R: Wait + Copy + Drop> Plane<K, R> {
-    /// A plane over the desk's half of the committer that it is of. Where memory is wanting the
-    /// half is lost, and the store's disk is to be opened again.
+    /// A plane over the desk's half of the committer that it is of, and what alone closes it. Where
+    /// memory is wanting the half is lost, and the store's disk is to be opened again.
     pub fn new(
         rt: R,
         alloc: Global,
         desk: DeskHalf,
         accepted: Growing<Accepted>,
-    ) -> Result<Plane<K, R>, AllocError>
+    ) -> Result<(Plane<K, R>, Closer<K>), AllocError>
         // The half is the desk's of the committer that `K` names.
         requires ours { IsDeskOf K.store K.desk_lists K.store_lists desk }
         // No edit was handed in yet.
@@ -80,7 +85,7 @@ impl<K: Naming, R: Wait + Copy + Drop> Plane<K, R> {
         requires named { accepted.name ≡ K.accepted }
         requires none { accepted.log ≡ [] }
     {
-        let hall = Hall::new(rt, alloc, desk, accepted)?;
+        let (hall, closer) = Hall::new(rt, alloc, desk, accepted)?;
         let shared = Shared {
             rt,
             hall: Mutex::new(hall),
@@ -90,9 +95,10 @@ impl<K: Naming, R: Wait + Copy + Drop> Plane<K, R> {
             news: Condvar::new(),
             evaluations: Evaluations::new(),
         };
-        Ok(Plane {
+        let plane = Plane {
             shared: Arc::new(alloc, shared)?,
-        })
+        };
+        Ok((plane, closer))
     }
 }
 
@@ -107,9 +113,9 @@ impl<K: Naming, R: Wait + Drop> Plane<K, R> {
 
     // ---- editors
 
-    /// Hands an edit in, behind those that wait, and wakes the flusher. A hall alone makes a
-    /// `Refusal`; `wait` tells what becomes of a ticket's edit.
-    pub fn submit(&self, edit: Edit) -> Result<PlaneTicket<K>, (Refusal, Edit)>
+    /// Hands an edit of this editor in, behind those that wait, and wakes the flusher. A hall alone
+    /// makes a `Refusal`; `wait` tells what becomes of a ticket's edit.
+    pub fn submit(&self, edit: Edit, editor: &mut Editor) -> Result<PlaneTicket<K>, (Refusal, Edit)>
         // `Err`: the refusal names the edit, with what its editor expected.
         ensures refused { IfErr result (λ e. e.0.edit ≡ proposal_of edit) }
         // `Ok`: the ticket names the plane's store and the edit handed in, with what its editor
@@ -117,10 +123,12 @@ impl<K: Naming, R: Wait + Drop> Plane<K, R> {
         ensures ticket { IfOk result (λ t. (t.store ≡ K.store) × (t.edit ≡ proposal_of edit)) }
         // `Err`: the edit comes back.
         ensures given_back { IfErr result (λ e. e.1 ≡ edit) }
+        // The hall said to the editor that it is taken, or why it isn't, and nothing else.
+        ensures said { editor.new ≡ editor.old ++ said_at result ∷ [] }
     {
         let shared = &self.shared;
         let mut hall = shared.hall.lock(&shared.rt);
-        let submitted = hall.submit(edit);
+        let submitted = hall.submit(edit, editor);
         shared.note_waiting(&hall);
         drop(hall);
         shared.work.notify_one();
@@ -130,7 +138,11 @@ impl<K: Naming, R: Wait + Drop> Plane<K, R> {
     /// Waits until the ticket's edit is settled and shown, and gives the ticket back with what is
     /// told of it; or gives it up, where no edit is settled any more. A hall alone gives one up
     /// (`Hall::give_up`).
-    pub fn wait(&self, ticket: PlaneTicket<K>) -> Result<(Ticket, Told, Shown), GivenUp>
+    pub fn wait(
+        &self,
+        ticket: PlaneTicket<K>,
+        editor: &mut Editor,
+    ) -> Result<(Ticket, Told, Shown), GivenUp>
         // The ticket that comes back, or is given up, is this one.
         ensures same { MatchResult result (λ p. p.0 ≡ ticket) (λ g. g ≡ ticket) }
         // `Ok`: what is told is of the plane's store, and has at least the ticket's revision.
@@ -141,6 +153,9 @@ impl<K: Naming, R: Wait + Drop> Plane<K, R> {
             StandsAt p.1 ticket.revision (change_in ticket.edit)) }
         // `Ok`: what is shown goes on from what is told.
         ensures shown { IfOk result (λ p. Begins p.1 p.2) }
+        // `Ok`: the hall said nothing more to the editor. `Err`: that the ticket is given up.
+        ensures said { MatchResult result (λ _. editor.new ≡ editor.old)
+            (λ g. editor.new ≡ editor.old ++ Unknown g ∷ []) }
     {
         let shared = &self.shared;
         let bell = shared.bells.of(ticket.revision());
@@ -150,7 +165,7 @@ impl<K: Naming, R: Wait + Drop> Plane<K, R> {
             if let Some((told, shown)) = hall.answer(&ticket) {
                 return Ok((ticket.into_ticket(), told, shown));
             }
-            ticket = match hall.give_up(ticket) {
+            ticket = match hall.give_up(ticket, editor) {
                 Ok(given_up) => return Err(given_up),
                 Err(ticket) => ticket,
             };
@@ -186,8 +201,9 @@ impl<K: Naming, R: Wait + Drop> Plane<K, R> {
 
     // ---- subscribers
 
-    /// A seat for a subscriber that has this. Refused where all 32 are taken.
-    pub fn seat(&self, hello: Hello) -> Result<Seat, SeatsUsed>
+    /// A seat for a subscriber that has this, which has to be given back. Refused where all 32 are
+    /// taken.
+    pub fn seat(&self, hello: Hello) -> Result<TakenSeat<K>, SeatsUsed>
         // `Ok`: the seat has what was said.
         ensures { IfOk result (λ s. had_by s ≡ hello) }
     {
@@ -195,7 +211,7 @@ impl<K: Naming, R: Wait + Drop> Plane<K, R> {
     }
 
     /// Takes a seat back.
-    pub fn unseat(&self, seat: Seat) {
+    pub fn unseat(&self, seat: TakenSeat<K>) {
         self.shared.hall.lock(&self.shared.rt).unseat(seat)
     }
 
@@ -209,20 +225,20 @@ impl<K: Naming, R: Wait + Drop> Plane<K, R> {
 
     // ---- the end
 
-    /// Closes the hall: no edit is taken any more, what was taken goes on, and the flusher is
-    /// woken, and subscribers, which may go where sealing broke off before. To wake them wants the
-    /// lock of a hall that was closed.
-    pub fn close(&self) {
-        self.tell_closed(self.closed());
+    /// Closes the hall, by what was made with it: no edit is taken any more, what was taken goes on,
+    /// and the flusher is woken, and subscribers, which may go where sealing broke off before. To wake
+    /// them wants the lock of a hall that was closed.
+    pub fn close(&self, closer: Closer<K>) {
+        self.tell_closed(self.closed(closer));
     }
 
     // The lock, under which the hall is closed.
-    fn closed(&self) -> MutexGuard<'_, Hall<K, R>>
+    fn closed(&self, closer: Closer<K>) -> MutexGuard<'_, Hall<K, R>>
         ensures stopped { result.value.desk.stopped ≡ true }
         ensures closing { result.value.closing ≡ true }
     {
         let mut hall = self.shared.hall.lock(&self.shared.rt);
-        hall.close();
+        hall.close(closer);
         hall
     }
 
@@ -242,7 +258,11 @@ impl<K: Naming, R: Wait + Clock + Drop> Plane<K, R> {
     /// `Err` where the plane was stopped or it has left, and nowhere else: these two alone make a
     /// `Gone`. Whether it has left is asked each second in which nothing new is shown, each time
     /// that memory is wanting for a document, and where the plane looks who has left.
-    pub fn handed<G: Fn() -> bool>(&self, seat: &mut Seat, has_left: &G) -> Result<Handed, Gone>
+    pub fn handed<G: Fn() -> bool>(
+        &self,
+        seat: &mut TakenSeat<K>,
+        has_left: &G,
+    ) -> Result<Handed, Gone>
         // `has_left` may be called at any time.
         requires { G.IsAlwaysCallable has_left.now }
         // `Ok`: what is handed is of the plane's store.

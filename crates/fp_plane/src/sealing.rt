@@ -3,7 +3,7 @@
 //! Who seals: an editor tries the half's lock. Where it gets it, and whoever was told last was
 //! alone (its batch had one edit, and nobody waited behind it), it takes the step of a compaction
 //! that is owed behind that batch, hands its edit in and draws it under one lock of the hall,
-//! seals, settles and shows it, and lets the half's lock go: no other thread is woken. Else it
+//! seals, settles and shows it, and lets the half's lock go: the flusher isn't woken. Else it
 //! hands the edit in and wakes the flusher, which takes the half's lock and keeps it, also while it
 //! sleeps, until it has sealed one edit alone and nobody waits. So many editors have one that
 //! gathers for all, and one editor has no hand-over.
@@ -20,10 +20,11 @@
 //! is shown. Both are so at once but where memory is wanting to show it: then all up to what is
 //! shown at last are woken, and not the editors of that batch alone (`Plane::settle`).
 
-ghost use Rattle.std.specs.Prelude.{◌≡◌, ◌∷◌, [], is_err, IfOk, IfErr, IfSome};
+ghost use Rattle.std.specs.Prelude.{◌≡◌, ◌++◌, ◌∷◌, [], is_err, IfOk, IfErr, IfSome};
 ghost use Rattle.fp_committer.specs.StoreHalf.{StoreHalfState};
 ghost use Rattle.fp_edit.specs.Edits.{proposal_of};
 ghost use Rattle.fp_plane.specs.Flushing.{Flushes, IsResting};
+ghost use Rattle.fp_hall.specs.Editors.{said_at};
 ghost use Rattle.fp_hall.specs.Hall.{IsStoreOf};
 
 use crate::flushing::{Broken, Flushed};
@@ -34,7 +35,7 @@ use crate::plane::Plane;
 use fp_disk::Disk;
 use fp_edit::Edit;
 use fp_fronts::{Front, Growing};
-use fp_hall::{AllSettled, Naming, PlaneTicket, Refusal};
+use fp_hall::{AllSettled, Editor, Naming, PlaneTicket, Refusal};
 use log::Log;
 use std::alloc::{AllocError, Global};
 use std::sync::{Arc, Mutex, Wait};
@@ -91,27 +92,28 @@ impl<K: Naming, D: Disk + Drop, R: Wait + Drop> SealingPlane<K, D, R> {
 }
 
 impl<K: Naming, D: Disk + Drop, R: Wait + Clock + Log + Drop> SealingPlane<K, D, R> {
-    /// Hands an edit in, as `Plane::submit` does. An editor that is alone seals it too; else the
-    /// flusher does, which is woken behind that.
-    pub fn submit(&self, edit: Edit) -> Result<PlaneTicket<K>, (Refusal, Edit)>
-        // As of `Plane::submit`.
+    // Hands an edit in, as `Plane::submit` does. An editor that is alone seals it too; else the
+    // flusher does, which is woken behind that.
+    pub(crate) fn submit(
+        &self,
+        edit: Edit,
+        editor: &mut Editor,
+    ) -> Result<PlaneTicket<K>, (Refusal, Edit)>
         ensures refused { IfErr result (λ e. e.0.edit ≡ proposal_of edit) }
-        // As of `Plane::submit`.
         ensures ticket { IfOk result (λ t. (t.store ≡ K.store) × (t.edit ≡ proposal_of edit)) }
-        // `Err`: the edit comes back.
         ensures given_back { IfErr result (λ e. e.1 ≡ edit) }
+        ensures said { editor.new ≡ editor.old ++ said_at result ∷ [] }
     {
         if let Some(mut place) = self.place.try_lock() {
             if let Some(lying) = &mut *place {
-                return lying.lead(&self.plane, edit);
+                return lying.lead(&self.plane, edit, editor);
             }
         }
-        self.plane.submit(edit)
+        self.plane.submit(edit, editor)
     }
 
-    /// Takes the step of a compaction that an editor owes behind the batch that it sealed. Who was told
-    /// of the batch needn't wait for it, so it comes behind the answer.
-    pub fn go_on(&self) {
+    // Takes the step of a compaction that an editor owes behind the batch that it sealed.
+    pub(crate) fn go_on(&self) {
         if let Some(mut place) = self.place.try_lock() {
             if let Some(lying) = &mut *place {
                 lying.go_on(&self.plane);

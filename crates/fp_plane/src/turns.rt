@@ -1,11 +1,13 @@
 //! What whoever seals does under the hall's lock: to wait for edits, draw them, settle and show what
 //! is sealed.
 
-ghost use Rattle.std.specs.Prelude.{◌≡◌, ◌≤◌, true, false, IfErr, IfOk, OnErr, OnOk, is_ok};
+ghost use Rattle.std.specs.Prelude.{◌≡◌, ◌≤◌, ◌++◌, ◌∷◌, [], true, false, IfErr, IfOk, OnErr, OnOk};
+ghost use Rattle.std.specs.Prelude.{is_ok};
 ghost use Rattle.fp_edit.specs.Edits.{proposal_of};
 ghost use Rattle.fp_committer.specs.Course.{ListsOn};
 ghost use Rattle.fp_committer.specs.Way.{batch_drawn, batch_sealed, nothing_drawn};
 ghost use Rattle.fp_group_commit.specs.Tokens.{front_revision};
+ghost use Rattle.fp_hall.specs.Editors.{said_at};
 ghost use Rattle.fp_hall.specs.Hall.{IsStoreOf, settled_by};
 
 use crate::pausing::Retries;
@@ -14,7 +16,7 @@ use fp_committer::StoreHalf;
 use fp_disk::Disk;
 use fp_edit::Edit;
 use fp_group_commit::Told;
-use fp_hall::{AllSettled, Naming, PlaneTicket, Refusal};
+use fp_hall::{AllSettled, Editor, Naming, PlaneTicket, Refusal};
 use fp_publish::Shown;
 use log::Log;
 use std::sync::Wait;
@@ -82,6 +84,7 @@ impl<K: Naming, R: Wait + Clock + Log + Drop> Plane<K, R> {
     pub(crate) fn submit_and_draw<D: Disk>(
         &self,
         edit: Edit,
+        editor: &mut Editor,
         half: &mut StoreHalf<D>,
         owes_step: &mut bool,
     ) -> (Result<PlaneTicket<K>, (Refusal, Edit)>, bool)
@@ -91,6 +94,7 @@ impl<K: Naming, R: Wait + Clock + Log + Drop> Plane<K, R> {
         ensures refused { IfErr result.0 (λ e. e.0.edit ≡ proposal_of edit) }
         ensures ticket { IfOk result.0 (λ t. (t.store ≡ K.store) × (t.edit ≡ proposal_of edit)) }
         ensures given_back { IfErr result.0 (λ e. e.1 ≡ edit) }
+        ensures said { editor.new ≡ editor.old ++ said_at result.0 ∷ [] }
         ensures drawn { result.1 ≡ true → (half.new.progress ≡ batch_drawn)
             × ListsOn D.Disk half.old half.new }
         ensures none { result.1 ≡ false → half.new ≡ half.old }
@@ -99,7 +103,7 @@ impl<K: Naming, R: Wait + Clock + Log + Drop> Plane<K, R> {
         let shared = &self.shared;
         half.rest();
         let mut hall = shared.hall.lock(&shared.rt);
-        let ticket = match hall.submit(edit) {
+        let ticket = match hall.submit(edit, editor) {
             Ok(ticket) => ticket,
             Err(refused) => return (Err(refused), false),
         };

@@ -30,7 +30,7 @@ use Rattle.fp_streams.specs.Said.{AppendsLine}
 use Rattle.fp_streams.specs.declared.counted.StreamFault.{StreamFault}
 use Rattle.fp_streams.specs.declared.counted.StreamFault.TheVariants as stream
 use Rattle.fp_server.specs.Attends.{Serves}
-use Rattle.fp_server.specs.Ends.{BlamesStreams, EndsBadly, EndsWell, HasBroken, IsAttendingFault, IsBack, IsBrokenOff, IsBrokenStore}
+use Rattle.fp_server.specs.Ends.{BlamesStreams, EndsBadly, EndsWell, IsAttendingFault, IsBack, IsBrokenOff, IsBrokenStore}
 use Rattle.fp_server.specs.Ends.{IsServedStore, IsServingFault, SaysAll, SaysWhere, broken_off, line, where_text}
 
 pub says_where : (a b c d : Option (List ℕ)) (x y z : SocketAddr) →

@@ -17,8 +17,8 @@ use Rattle.fp_files.specs.Openings.{KeepsAll}
 use Rattle.fp_files.specs.declared.files.DiskFiles.{Ghosts as FileGhosts}
 use Rattle.fp_recovery.specs.Stands.{StandsFor}
 use Rattle.fp_group_commit.specs.Store.{StoreState}
-use Rattle.fp_committer.specs.Course.{GoesThrough, LacksRoom, RunsCommitter}
-use Rattle.fp_plane.specs.Flushing.{Flushes}
+use Rattle.fp_committer.specs.Course.{GoesThrough, RunsCommitter}
+use Rattle.fp_plane.specs.Flushing.{Flushes, HasBroken}
 use Rattle.fp_plane.specs.declared.flushing.Broken.{Broken}
 use Rattle.fp_committer.specs.StoreHalf.{StoreHalfState}
 
@@ -60,11 +60,6 @@ abbrev pub IsBack : {F D : Type 0} → FileGhosts F D → DiskGhosts D → F →
 IsBack files disk new path after = disk.honest after → files.at new path ≡ Some after
 
 -- ---- the course of its disk
-
--- why a store that is served failed: the device did, or there is no room for what was drawn
-abbrev pub HasBroken : {D : Type 0} → DiskGhosts D → (before after : D) → StoreHalfState D → Type 0
-HasBroken disk before after last =
-    (disk.faults before < disk.faults after) ⊎ LacksRoom disk last
 
 -- all that was drawn is settled, and so sealed
 pub record IsServedStore {D : Type 0} (disk : DiskGhosts D) (s t : StoreState D) : Type 0 where

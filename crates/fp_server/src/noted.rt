@@ -30,19 +30,25 @@ impl Noted<'_> {
     }
 
     fn note_of_reader(&mut self, fault: &io::Error) {
-        self.ended = Some(match fault.kind() {
+        let ended = match fault.kind() {
+            // Whoever reads tries that again.
+            ErrorKind::Interrupted => return,
             // By the stream's own limit.
             ErrorKind::WouldBlock => Ended::SlowRequest,
             kind => Ended::Fault(kind),
-        });
+        };
+        self.ended = Some(ended);
     }
 
     fn note_of_writer(&mut self, fault: &io::Error) {
-        self.ended = Some(match fault.kind() {
+        let ended = match fault.kind() {
+            // Whoever writes tries that again.
+            ErrorKind::Interrupted => return,
             // By the stream's own limit, or by the system's on what isn't taken.
             ErrorKind::WouldBlock | ErrorKind::TimedOut => Ended::SlowReply,
             kind => Ended::Fault(kind),
-        });
+        };
+        self.ended = Some(ended);
     }
 }
 

@@ -10,7 +10,7 @@ use fp_conversations::{EditorEnd, SubscriberFault, editor_loop, subscriber_loop}
 use fp_disk::Disk;
 use fp_http::{Blocking, Moment, Note, TimeLimits, serve_ofrep};
 use fp_log::Port;
-use fp_plane::{Naming, Plane, SealingPlane};
+use fp_plane::{Editing, Naming, Plane, SealingPlane};
 use fp_publish::{MOST_EVALUATORS, MOST_SEATS};
 use fp_stream::HelloFault;
 use fp_streams::{FailureCounted, StreamFault};
@@ -149,7 +149,7 @@ where
     I: Read,
     O: Write,
 {
-    match editor_loop(plane, rt.alloc(), r, w) {
+    match editor_loop(&mut Editing::new(plane), rt.alloc(), r, w) {
         Ok(EditorEnd::Served(_told)) => Some(Ended::ByPeer),
         Ok(EditorEnd::HttpRequest) => Some(Ended::HttpRequest),
         Err((StreamFault::Memory, _)) => Some(Ended::Fault(ErrorKind::OutOfMemory)),
@@ -188,7 +188,9 @@ where
         Ok(_gone) => Some(Ended::ByPeer),
         Err(SubscriberFault::TooLong) => Some(Ended::Fault(ErrorKind::FileTooLarge)),
         Err(SubscriberFault::Hello(HelloFault::Device)) | Err(SubscriberFault::Device) => None,
-        Err(SubscriberFault::Hello(_)) => Some(Ended::NoHello),
+        // Who asks whether the port is there says nothing, or less than a hello.
+        Err(SubscriberFault::Hello(HelloFault::Cut)) => Some(Ended::ByPeer),
+        Err(SubscriberFault::Hello(HelloFault::BadHello)) => Some(Ended::NoHello),
         Err(SubscriberFault::SeatsUsed) => Some(Ended::NoPlace),
     }
 }

@@ -12,7 +12,7 @@ use fp_commands::CommandFault;
 use fp_connections::Host;
 use fp_disk::Disk;
 use fp_http::TimeLimits;
-use fp_plane::{Naming, SealingPlane};
+use fp_plane::{Closer, Naming, SealingPlane};
 use fp_streams::{FailureCounted, StreamFault};
 use std::io;
 use std::io::{ErrorKind, Read, Write};
@@ -51,7 +51,7 @@ impl<R: Host> Services<R> {
         })
     }
 
-    fn start<K, D>(&mut self, plane: &SealingPlane<K, D, R>) -> io::Result<()>
+    fn start<K, D>(&self, plane: &SealingPlane<K, D, R>) -> io::Result<()>
     where
         K: Naming + Send + Sync + 'static,
         D: Disk + Drop + Send + 'static,
@@ -61,10 +61,12 @@ impl<R: Host> Services<R> {
         self.stream.start(plane)
     }
 
-    /// Lets connections in, says where, and waits for the input's end.
+    /// Lets connections in, says where, and waits for the input's end. What closes the plane is lent
+    /// for so long, so that it isn't closed before.
     pub fn attend<K, D, I, O>(
-        &mut self,
+        &self,
         plane: &SealingPlane<K, D, R>,
+        _closer: &Closer<K>,
         r: &mut FailureCounted<I>,
         w: &mut FailureCounted<O>,
     ) -> Result<(), CommandFault>
@@ -91,7 +93,7 @@ impl<R: Host> Services<R> {
         Ok(())
     }
 
-    // The same to who reads the log.
+    // Tells who reads the log where connections are let in.
     fn tell_where(&self) {
         for service in [&self.ofrep, &self.edit, &self.stream] {
             service.tell_where();

@@ -23,7 +23,7 @@ use fp_fronts::Growing;
 use fp_group_commit::{Opening, Store};
 use fp_http::TimeLimits;
 use fp_log::{Event, tell, tell_failure};
-use fp_plane::{Accepted, Flushed, Naming, OwnHalf, Plane, SealingPlane, flusher};
+use fp_plane::{Accepted, Closer, Flushed, Naming, OwnHalf, Plane, SealingPlane, flusher};
 use fp_streams::FailureCounted;
 use std::alloc::AllocError;
 use std::io::{Read, Write};
@@ -181,8 +181,8 @@ fn still<D: Disk>(half: &StoreHalf<D>)
 /// A store's half that isn't served any more, and why where that was by a fault.
 type GivenHalf<D> = Result<StoreHalf<D>, (CommandFault, StoreHalf<D>)>;
 
-// Two handles of one plane.
-type Planes<K, D, R> = (SealingPlane<K, D, R>, SealingPlane<K, D, R>);
+// Two handles of one plane, and what closes it.
+type Planes<K, D, R> = (SealingPlane<K, D, R>, SealingPlane<K, D, R>, Closer<K>);
 
 // Serves a committer over the plane of its name.
 fn serve_named<K, D, R, I, O>(
@@ -222,7 +222,7 @@ where
         (record { reader = r.old; writer = w.old }) (record { reader = r.new; writer = w.new })) }
 {
     still(&half);
-    let (plane, flushed) = match planes::<K, D, R>(rt, desk, accepted) {
+    let (plane, for_flusher, closer) = match planes::<K, D, R>(rt, desk, accepted) {
         Ok(planes) => planes,
         Err(fault) => return Err((fault.into(), half)),
     };
@@ -232,21 +232,21 @@ where
     let here = began.again();
     let flush = move || {
         let began = began;
-        flusher(&flushed, began)
+        flusher(&for_flusher, began)
     };
     match thread::spawn_with(rt, promise, flush) {
-        Ok(flusher) => serve_plane(rt, &plane, flusher, services, r, w),
+        Ok(flusher) => serve_plane(rt, &plane, closer, flusher, services, r, w),
         Err(refused) => {
             // What the thread was to do is done here: with nothing to seal it gives the half back.
             let thread = "flusher";
             tell_failure(rt, &Event::NotStarted { thread }, &io::Error::from(refused));
-            plane.plane().close();
+            plane.plane().close(closer);
             Err((CommandFault::Device, flusher(&plane, here).half.into_half()))
         }
     }
 }
 
-// A plane over the desk's half, and a handle of it for its flusher.
+// A plane over the desk's half, a handle of it for its flusher, and what closes it.
 fn planes<K, D, R>(
     rt: &R,
     desk: DeskHalf,
@@ -261,10 +261,10 @@ where
     requires named { accepted.name ≡ K.accepted }
     requires none { accepted.log ≡ [] }
 {
-    let plane = Plane::new(*rt, rt.alloc(), desk, accepted)?;
+    let (plane, closer) = Plane::new(*rt, rt.alloc(), desk, accepted)?;
     let plane = SealingPlane::new(rt.alloc(), plane)?;
-    let flushed = plane.try_copy()?;
-    Ok((plane, flushed))
+    let for_flusher = plane.try_copy()?;
+    Ok((plane, for_flusher, closer))
 }
 
 /// What a flusher that began with this half promises.
@@ -281,6 +281,7 @@ impl<D: Disk + Drop> Promise<Flushed<D>> for FlushesFrom<D> {
 fn serve_plane<K, D, R, I, O>(
     rt: &R,
     plane: &SealingPlane<K, D, R>,
+    closer: Closer<K>,
     flusher: PromisedHandle<Flushed<D>, FlushesFrom<D>>,
     services: Services<R>,
     r: &mut FailureCounted<I>,
@@ -304,10 +305,9 @@ where
     ensures blames { IfErr result (λ e. e.0 ≢ StoreFailed → BlamesStreams
         (record { reader = r.old; writer = w.old }) (record { reader = r.new; writer = w.new })) }
 {
-    let mut services = services;
-    let attended = services.attend(plane, r, w);
+    let attended = services.attend(plane, &closer, r, w);
     services.stop_reading();
-    plane.plane().close();
+    plane.plane().close(closer);
     let Flushed { half, ended } = flusher.join(rt);
     services.end();
     match (attended, ended) {

@@ -4,8 +4,7 @@ ghost use Rattle.std.specs.Prelude.{◌≡◌, ◌⊎◌, ◌<◌, ◌≤◌, �
 ghost use Rattle.std.specs.Prelude.{is_err, length, IfOk, IfSome, MatchOption, MatchResult, OnErr};
 ghost use Rattle.fp_group_commit.specs.Tokens.{front_revision};
 ghost use Rattle.fp_publish.specs.Seats.{IsNews, had_by};
-ghost use Rattle.fp_publish.specs.declared.board.TheConstants.{MOST_EVALUATORS};
-ghost use Rattle.fp_publish.specs.declared.seats.TheConstants.{MOST_SEATS};
+ghost use Rattle.fp_hall.specs.Numbers.{most_evaluators, most_seats};
 ghost use Rattle.fp_stream.specs.declared.hello.Hello.TheVariants.{Has};
 
 use super::{EvaluatorsUsed, Gone, Hall, Staying};
@@ -13,7 +12,23 @@ use crate::naming::Naming;
 use fp_publish::{Evaluator, Handed, MOST_EVALUATORS, Seat, SeatsUsed};
 use fp_stream::Hello;
 use std::alloc::AllocError;
+use std::marker::{Model, PhantomData};
 use std::sync::Wait;
+
+/// A seat of the hall of this name that is taken. It can't be let go of: only `Hall::unseat` uses it
+/// up.
+pub struct TakenSeat<K: Naming> {
+    seat: Seat,
+    of: PhantomData<K>,
+}
+
+impl<K: Naming> Model for TakenSeat<K> {
+    ghost use Rattle.fp_publish.specs.declared.seats.Seat.{Seat};
+
+    ghost Value = { Seat };
+
+    ghost view = { λ s. s.seat };
+}
 
 impl<K: Naming, R: Wait + Drop> Hall<K, R> {
     // ---- evaluators
@@ -40,10 +55,10 @@ impl<K: Naming, R: Wait + Drop> Hall<K, R> {
         // The evaluator is of the plane's store.
         requires { evaluator.known.store ≡ K.store }
         // Where fewer than 16 are here, it is one of those that nobody has, and is lent nothing.
-        ensures back { length self.old.idle < MOST_EVALUATORS → self.new.idle
+        ensures back { length self.old.idle < most_evaluators → self.new.idle
             ≡ self.old.idle ++ (record { known = evaluator.known; lent = None }) ∷ [] }
         // Where all are here nothing changes.
-        ensures none_out { MOST_EVALUATORS ≤ length self.old.idle → self.new ≡ self.old }
+        ensures none_out { most_evaluators ≤ length self.old.idle → self.new ≡ self.old }
         // Nothing else changes.
         ensures rest { self.new ≡ record self.old { idle = self.new.idle } }
     {
@@ -57,28 +72,33 @@ impl<K: Naming, R: Wait + Drop> Hall<K, R> {
     // ---- subscribers
 
     /// A seat for a subscriber that has this.
-    pub fn seat(&mut self, hello: Hello) -> Result<Seat, SeatsUsed>
+    pub fn seat(&mut self, hello: Hello) -> Result<TakenSeat<K>, SeatsUsed>
         // `Ok`: fewer than 32 were taken, one more is now, and the seat has what was said.
         // `SeatsUsed` exactly where 32 are taken.
         ensures taken { MatchResult result
-            (λ s. (self.old.taken < MOST_SEATS) × (self.new.taken ≡ self.old.taken + 1)
+            (λ s. (self.old.taken < most_seats) × (self.new.taken ≡ self.old.taken + 1)
             × (had_by s ≡ hello))
-            (λ _. (MOST_SEATS ≤ self.old.taken) × (self.new.taken ≡ self.old.taken)) }
+            (λ _. (most_seats ≤ self.old.taken) × (self.new.taken ≡ self.old.taken)) }
         // Nothing else changes.
         ensures rest { self.new ≡ record self.old { taken = self.new.taken } }
     {
-        self.seats.seat(hello)
+        let seat = self.seats.seat(hello)?;
+        Ok(TakenSeat {
+            seat,
+            of: PhantomData,
+        })
     }
 
     /// Takes a seat back, so that one fewer is taken.
-    pub fn unseat(&mut self, seat: Seat)
+    pub fn unseat(&mut self, taken: TakenSeat<K>)
         ensures { self.new ≡ record self.old { taken = self.old.taken - 1 } }
     {
+        let TakenSeat { seat, of: _ } = taken;
         self.seats.unseat(seat);
     }
 
     /// Hands what is shown to a subscriber that hasn't got it.
-    pub fn hand(&mut self, seat: &mut Seat) -> Result<Option<Handed>, AllocError>
+    pub fn hand(&mut self, seat: &mut TakenSeat<K>) -> Result<Option<Handed>, AllocError>
         // `Ok`: `None` exactly where the subscriber has this revision or a greater one. Else it
         // is handed what is shown, and has its revision.
         ensures handed { IfOk result (λ o. MatchOption o
@@ -98,7 +118,7 @@ impl<K: Naming, R: Wait + Drop> Hall<K, R> {
         ensures rest { self.new ≡ record self.old { handed = self.new.handed } }
     {
         let view = self.board.view();
-        self.seats.hand(self.alloc, &view, seat)
+        self.seats.hand(self.alloc, &view, &mut seat.seat)
     }
 
     /// How often it was looked who has left, up to an overflow. No clause speaks of it.

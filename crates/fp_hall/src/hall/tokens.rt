@@ -1,11 +1,12 @@
-//! What a hall alone makes: that an edit wasn't taken, that one isn't known to be kept, that all
-//! that was taken is settled, and that a subscriber gets nothing more.
+//! What a hall alone makes: that an edit wasn't taken, that one isn't known to be kept, what closes
+//! the hall, that all that was taken is settled, and that a subscriber gets nothing more.
 
 ghost use Rattle.std.specs.Prelude.{◌≡◌, is_some};
 
+use crate::naming::Naming;
 use fp_desk::{SubmitFault, Ticket};
 use fp_edit::Edit;
-use std::marker::Model;
+use std::marker::{Model, PhantomData};
 use std::snapshot::Snapshot;
 
 /// That an edit wasn't taken, and why. A hall that refuses it makes one, and nothing else does.
@@ -31,6 +32,18 @@ impl Refusal {
     {
         self.fault
     }
+}
+
+/// What closes the hall of this name. `Hall::new` makes one, and nothing else does.
+#[derive(Drop)]
+pub struct Closer<K: Naming> {
+    pub(super) of: PhantomData<K>,
+}
+
+impl<K: Naming> Model for Closer<K> {
+    ghost Value = { Unit {0} };
+
+    ghost view = { λ _. tt };
 }
 
 /// That no batch is drawn any more, and all that was taken is settled: the plane is to stop,
@@ -81,8 +94,8 @@ impl Staying {
     }
 }
 
-/// The ticket of an edit that isn't known to be kept: no edit is settled any more, and it isn't. A
-/// hall in which that is so makes one, and nothing else does.
+/// The ticket of an edit that isn't known to be kept: no edit is settled any more, and it isn't
+/// settled, or what is settled isn't shown. A hall in which that is so makes one, and nothing else does.
 #[derive(Drop)]
 pub struct GivenUp {
     pub(super) ticket: Ticket,

@@ -16,8 +16,8 @@ loop-next-init g c =
       way = record {
         asked = [];
         came = λ all a. (all, refl, a);
-        served = subst (λ (o : Option FrontState). IsServed g.K.Naming.store o [] held held) (sym c.requires.none)
-            (served-none g.K.Naming.store held);
+        served = subst (λ (o : Option FrontState). IsServed g.K.Naming.store o [] c.args.editing.now c.args.editing.now held held)
+            (sym c.requires.none) (served-none g.K.Naming.store c.args.editing.now held);
       };
     }
 
@@ -34,6 +34,6 @@ loop-next-2-preserved g c =
         asked = u.asked ++ next.0 ∷ [];
         came = came-one g.A.EditSource.asks c.args.source.now c.args.stream.now c.loop-next-2.source c.next.new.self
             c.loop-next.stream u.asked u.came next.0 next.2;
-        served = c.in_ok-answer.ensures.answered next.0 u.asked before next.1 u.served;
+        served = c.in_ok-answer.ensures.answered next.0 u.asked c.args.editing.now before next.1 u.served;
       };
     }

@@ -10,7 +10,7 @@ invariant-loop-next g l = record {
   sent_well : l.w.failures ≡ l.fn.w.failures;
   ours : IfSome l.told (λ t. t.store ≡ g.K.Naming.store);
   way : IsUnderWay g.A.EditSource.asks l.fn.source l.fn.stream l.source l.stream g.K.Naming.store l.told
-      (g.O.Write.contents l.fn.w.inner) (g.O.Write.contents l.w.inner);
+      l.fn.editing l.editing (g.O.Write.contents l.fn.w.inner) (g.O.Write.contents l.w.inner);
 }
 
 abbrev pub decreases-loop-next : goal.decreases-loop-next
@@ -21,7 +21,7 @@ invariant-loop-next-2 g l = record {
   sent_well : l.w.failures ≡ l.fn.w.failures;
   ours : IfSome l.told (λ t. t.store ≡ g.K.Naming.store);
   way : IsUnderWay g.A.EditSource.asks l.fn.source l.fn.stream l.source l.stream g.K.Naming.store l.told
-      (g.O.Write.contents l.fn.w.inner) (g.O.Write.contents l.w.inner);
+      l.fn.editing l.editing (g.O.Write.contents l.fn.w.inner) (g.O.Write.contents l.w.inner);
 }
 
 abbrev pub decreases-loop-next-2 : goal.decreases-loop-next-2

@@ -2,7 +2,8 @@ use Rattle.std.proofs.Common.{subst}
 use Rattle.std.specs.Prelude.{IfErr, OnErr, Result}
 use Rattle.fp_commands.specs.declared.fault.CommandFault.{CommandFault}
 use Rattle.fp_plane.specs.declared.flushing.Broken.{Broken}
-use Rattle.fp_server.specs.Ends.{HasBroken, IsAttendingFault}
+use Rattle.fp_plane.specs.Flushing.{HasBroken}
+use Rattle.fp_server.specs.Ends.{IsAttendingFault}
 use Rattle.fp_server.proofs.EndsLemmas.{attending_calm}
 use Rattle.fp_server.proofs.serving.serve_plane.Goals as goal
 
