@@ -14,10 +14,10 @@ use Rattle.fp_hall.proofs.Halls.{begins_reaches}
 use Rattle.fp_hall.proofs.PlaceLemmas.{stands-on}
 use Rattle.fp_publish.specs.Fronts.{Begins}
 use Rattle.fp_publish.proofs.FrontLemmas.{compared}
-use Rattle.fp_session.specs.Asks.{Ask}
+use Rattle.fp_session.specs.Asks.{Ask, asked_by_input}
 use Rattle.fp_session.specs.Sources.{HasAsked}
 use Rattle.fp_conversations.specs.Answers.{Answer, IsShownAs, IsWithin, may_want, revision_in, answer_text, texts_of}
-use Rattle.fp_conversations.specs.Editing.{GoesOnFrom, HandsIn, IsServed}
+use Rattle.fp_conversations.specs.Editing.{GoesOnFrom, HandsIn, IsServed, IsServedFirst}
 use Rattle.fp_conversations.specs.Outcomes.{AreAnswersTo, AreHandedIn, IsAnswerTo, IsHandedIn, IsMadeBy, answer_to_outcome}
 
 -- ---- answers, one behind the other
@@ -242,3 +242,14 @@ pub under-way-handed : {A S : Type 0} (asks : A → S → List Ask → Type 0) (
 under-way-handed asks first at_first source stream store told was now before held way all a =
     let came = way.came all a in
     handed-later way.asked came.0 all was now came.1 (served-handed store told way.asked was now before held way.served)
+
+-- of an input of which nothing was asked yet
+pub input-handed : (o : Option (List ℕ)) (was : List Said) → IfSome o (λ input. HandsIn (asked_by_input input) was was)
+input-handed None was = tt
+input-handed (Some input) was = handed-none (asked_by_input input) was
+
+pub input-served : (o : Option (List ℕ)) (store : Identity) (was : List Said) (held : Option (List ℕ)) →
+    IfSome o (λ input. IsServedFirst store None (asked_by_input input) was was held held)
+input-served None store was held = tt
+input-served (Some input) store was held =
+    record { asked = []; later = asked_by_input input; part = refl; served = served-none store was held }

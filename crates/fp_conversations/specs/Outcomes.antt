@@ -1,6 +1,6 @@
 -- What a line of an editor comes to, what becomes of an edit that it hands in, and what the hall says of
 -- that.
-use Rattle.std.specs.Prelude.{◌≡◌, ◌⊎◌, ◌≤◌, List, [], ◌∷◌, Option, Some, None, Result, Ok, Err}
+use Rattle.std.specs.Prelude.{◌≡◌, ◌⊎◌, ◌≤◌, List, [], ◌∷◌, ◌++◌, Option, Some, None, Result, Ok, Err}
 use Rattle.std.specs.Prelude.{IfSome, IsSomeAnd}
 use Rattle.fp_edit.specs.Edits.{Proposal, change_in, proposal_of}
 use Rattle.fp_edit.specs.declared.edit.Edit.{Edit}

@@ -36,3 +36,9 @@ returns-clause-handed g c = λ x all was asks handed.
     let came = c.answer_line-answered in
     handed-more all was c.args.editing.now came.new.editing (said_of came.result.0) x handed
     (answered-handed c.args.asked came.result.0 x came.ensures.own asks) came.ensures.said
+
+pub returns-in_err-sent-clause-handed : goal.returns-in_err-sent-clause-handed
+returns-in_err-sent-clause-handed g c = λ x all was asks handed.
+    let came = c.answer_line-answered in
+    handed-more all was c.args.editing.now came.new.editing (said_of came.result.0) x handed
+    (answered-handed c.args.asked came.result.0 x came.ensures.own asks) came.ensures.said
