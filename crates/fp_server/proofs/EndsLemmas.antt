@@ -23,7 +23,7 @@ use Rattle.fp_files.specs.declared.openings.Purpose.TheVariants.{Writing}
 use Rattle.fp_group_commit.specs.Store.{Leaves, StoreState, coming, sealed_set}
 use Rattle.fp_group_commit.specs.Tokens.{Identity}
 use Rattle.fp_group_commit.specs.declared.phase.Phase.TheVariants.{Idle}
-use Rattle.fp_plane.specs.Flushing.{Flushes}
+use Rattle.fp_plane.specs.Flushing.{Flushes, HasBroken}
 use Rattle.fp_recovery.specs.Stands.{StandsFor}
 use Rattle.fp_streams.specs.Failures.{CountsFailures, Stream}
 use Rattle.fp_streams.specs.Said.{AppendsLine}
