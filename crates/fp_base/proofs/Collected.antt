@@ -1,6 +1,6 @@
 -- Maps made of a list of pairs at once.
-use Rattle.std.proofs.Common.{◌≡◌, ℕ, Global, String, string_bytes, nat_cmp, List, [], ◌∷◌, Bool, true, false, Option}
-use Rattle.std.proofs.Common.{None, Some, Ordering, Less, Equal, Greater, true≢false, ⊎_elim, refl, sym, ap, ap₂, subst}
+use Rattle.std.proofs.Common.{◌≡◌, ℕ, nat_cmp, List, [], ◌∷◌, Bool, true, false, Option}
+use Rattle.std.proofs.Common.{None, Some, Ordering, Less, Equal, Greater, true≢false, ⊎_elim, refl, sym, ap, ap₂}
 use Rattle.std.proofs.Common.{◌∙◌}
 use Rattle.std.specs.Prelude.{cond, is_some, unwrap_or}
 use Rattle.std.specs.BTreeMap.{BTreeMap, insert_entry, is_at, IsFromIterResult}
@@ -10,17 +10,13 @@ use Rattle.std.specs.List.{AllByRecursion}
 use Rattle.std.specs.List.Sorted.{IsStrictlySortedBy}
 use Rattle.std.specs.Map.{keys_of, lookup, update_all}
 use Rattle.std.specs.Ordering.{eq_by_cmp, is_eq, match_ordering, ordering_reverse}
-use Rattle.std.specs.String.{string_cmp, string_cmp_total}
 use Rattle.std.proofs.lemmas.Bool.{cases_Bool}
 use Rattle.std.proofs.lemmas.Map.{lookup-none}
 use Rattle.std.proofs.lemmas.Map.Entries.{lookup_head, lookup_tail, none_past_head, none_below_head}
 use Rattle.std.proofs.lemmas.Map.Keys.{sorted_tail, IsDistinct-from_sorted}
-use Rattle.std.proofs.lemmas.Map.Lookups.{map_keys, exact_bytes}
+use Rattle.std.proofs.lemmas.Map.Lookups.{map_keys}
 use Rattle.std.proofs.lemmas.Map.Made.{update_all_none}
 use Rattle.serde_json.specs.Data.{Data, Members, no_members, member}
-use Rattle.serde_json.specs.View.{view, members_view}
-use Rattle.serde_json.specs.declared.value.Value.{Value}
-use Rattle.serde_json.proofs.Views as values
 use Rattle.fp_base.specs.Sorted.{IsBelow, IsSorted}
 
 some-none : {X : Type 0} {v : X} {o : Option X} → o ≡ Some v → o ≡ None → ⊥
@@ -137,20 +133,3 @@ module _ {K X : Type 0} (f : K → List ℕ) (seen : X → Data) where
   unfolding IsStrictlySortedBy
   keys-sorted [] h = tt
   keys-sorted (e ∷ es) h = (keys-below e.0 es h.0, keys-sorted es h.1)
-
-abbrev text : String Global → List ℕ
-text k = string_bytes k
-
-values-named : (es : List values.Entry) → members_view es ≡ named text view (map_keys text es)
-values-named [] = refl
-values-named (e ∷ es) = ap (member (string_bytes e.0) (view e.1)) (values-named es)
-
--- a value's members, from a list of them in order
-pub collected : (xs : List values.Entry) (n : BTreeMap (String Global) Value) → IsFromIterResult string_cmp xs n →
-    IsSorted (members_view xs) → members_view n.entries ≡ members_view xs
-collected xs n made sorted =
-    values-named n.entries
-    ∙ ap (named text view)
-    (in-order string_cmp_total text (λ x y h. exact_bytes (text x) (text y) h) xs n made
-    (keys-sorted text view xs (subst IsSorted (values-named xs) sorted)))
-    ∙ sym (values-named xs)

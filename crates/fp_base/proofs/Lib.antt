@@ -3,7 +3,6 @@ pub mod Reading
 pub mod TextLengths
 pub mod WholeData
 pub mod Sorted
-pub mod Taken
 pub mod Named
 pub mod Turns
 pub mod Back

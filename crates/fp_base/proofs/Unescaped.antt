@@ -1,5 +1,7 @@
 -- What a string has as it is, looked at byte by byte or many at once.
-use Rattle.std.proofs.Common.{◌≡◌, ◌<◌, ◌≤◌, ◌+◌, ◌-◌, ◌*◌, ◌%◌, ◌^◌, ◌||◌, ◌==◌, nat_lt, ℕ, Bool, true, false, not, cond, eqb, suc, List, [], ◌∷◌, ◌++◌, length, map, replicate, take, drop, get_or, refl, subst, sym, ap, ap₂, ◌∙◌, arith}
+use Rattle.std.proofs.Common.{◌≡◌, ◌<◌, ◌≤◌, ◌+◌, ◌-◌, ◌*◌, ◌%◌, ◌^◌, ◌||◌, ◌==◌, nat_lt, ℕ, Bool, true, false, not, cond}
+use Rattle.std.proofs.Common.{eqb, suc, List, [], ◌∷◌, ◌++◌, length, map, replicate, take, drop, get_or, refl, subst, sym, ap}
+use Rattle.std.proofs.Common.{ap₂, ◌∙◌, arith}
 use Rattle.std.proofs.lemmas.Bool.{cond-false, cond-true, eq-eqb, ne_eqb}
 use Rattle.std.proofs.Common.{append_assoc}
 use Rattle.std.proofs.Math.Seq.{take-add}
@@ -43,14 +45,16 @@ escape_halves n xs = sym (flat_map-append escape_byte (take n xs) (drop n xs)) �
 pub to_end : (xs : List ℕ) (at : ℕ) → take (length xs - at) (drop at xs) ≡ drop at xs
 to_end xs at = take_all (length xs - at) (drop at xs) (omega (arith, length-drop at xs))
 
-next_part : (xs : List ℕ) (at run : ℕ) → at < length xs → take (at + 1 + run) xs ≡ take at xs ++ (get_or xs at 0 ∷ take run (drop (at + 1) xs))
+next_part : (xs : List ℕ) (at run : ℕ) → at < length xs →
+    take (at + 1 + run) xs ≡ take at xs ++ (get_or xs at 0 ∷ take run (drop (at + 1) xs))
 next_part xs at run within =
     take-add (at + 1) run xs ∙ ap (λ l. l ++ take run (drop (at + 1) xs)) (take_more xs at 0 within)
     ∙ append_assoc (take at xs) (get_or xs at 0 ∷ []) (take run (drop (at + 1) xs))
 
 -- what stands between quotes, in two parts
 pub quoted_halves : (xs : List ℕ) (run : ℕ) (start one two : List ℕ) → escape (take run xs) ≡ take run xs →
-    one ≡ (start ++ 34 ∷ []) ++ take run xs → two ≡ (one ++ escape (take (length xs - run) (drop run xs))) ++ 34 ∷ [] → two ≡ start ++ quoted xs
+    one ≡ (start ++ 34 ∷ []) ++ take run xs → two ≡ (one ++ escape (take (length xs - run) (drop run xs))) ++ 34 ∷ [] →
+    two ≡ start ++ quoted xs
 quoted_halves xs run start one two plain before behind =
     let rest = ap escape (to_end xs run) in
     let halves = ap₂ (λ f g. f ++ g) (sym plain) rest ∙ escape_halves run xs in
@@ -101,12 +105,15 @@ below a b = lane (nat_lt a b)
 
 -- what the three comparisons say together, a bit for each byte
 pub bits-of : (v : List ℕ) (n : ℕ) → length v ≡ n → n ≤ 64 →
-    mask_l (map (top 7) (zip2 bit_or (zip2 bit_or (zip2 equal v (replicate n 34)) (zip2 equal v (replicate n 92))) (zip2 below v (replicate n 32)))) % 2 ^ 64
+    mask_l (map (top 7)
+    (zip2 bit_or (zip2 bit_or (zip2 equal v (replicate n 34)) (zip2 equal v (replicate n 92))) (zip2 below v (replicate n 32))))
+    % 2 ^ 64
     ≡ mask_l (map is_escaped v)
 bits-of v n long few =
     let marks = zip2_of_maps bit_or (λ x. equal x 34) (λ x. equal x 92) v (zip2_splat equal v n 34 long) (zip2_splat equal v n 92 long) in
     let all = zip2_of_maps bit_or (λ x. bit_or (equal x 34) (equal x 92)) (λ x. below x 32) v marks (zip2_splat below v n 32 long) in
-    ap (λ bs. mask_l bs % 2 ^ 64) (ap (map (top 7)) all ∙ tops v) ∙ mask_l-mod (map is_escaped v) 64 (omega (arith, length-map v is_escaped))
+    ap (λ bs. mask_l bs % 2 ^ 64) (ap (map (top 7)) all ∙ tops v)
+    ∙ mask_l-mod (map is_escaped v) 64 (omega (arith, length-map v is_escaped))
 
 none_set : (b : Bool) (n l m : ℕ) → n ≤ l → cond (not b) (1 + n) 0 ≡ suc l → (n ≡ l → m ≡ 0) → cond b 1 0 + 2 * m ≡ 0
 none_set true n l m le e h = absurd (omega arith)
@@ -115,7 +122,8 @@ none_set false n l m le e h = omega (arith, h (omega arith))
 none_escaped : (xs : List ℕ) → prefix_len is_unescaped xs ≡ length xs → mask_l (map is_escaped xs) ≡ 0
 none_escaped [] e = refl
 none_escaped (x ∷ xs) e =
-    none_set (is_escaped x) (prefix_len is_unescaped xs) (length xs) (mask_l (map is_escaped xs)) (prefix_len-le-length is_unescaped xs) e (none_escaped xs)
+    none_set (is_escaped x) (prefix_len is_unescaped xs) (length xs) (mask_l (map is_escaped xs))
+    (prefix_len-le-length is_unescaped xs) e (none_escaped xs)
 
 module _ (d : List ℕ) (i n : ℕ) (room : i + n ≤ length d) where
   seen : List ℕ
@@ -126,7 +134,8 @@ module _ (d : List ℕ) (i n : ℕ) (room : i + n ≤ length d) where
       (length (chunk i n d) + prefix_len is_unescaped (drop (i + n) d)) (prefix_len is_unescaped (chunk i n d))
   split = ap (prefix_len is_unescaped) (chunk-drop i n d) ∙ prefix_len-append is_unescaped (chunk i n d) (drop (i + n) d)
 
-  pub run-through : mask_l (map is_escaped (chunk i n d)) ≡ 0 → prefix_len is_unescaped (drop i d) ≡ n + prefix_len is_unescaped (drop (i + n) d)
+  pub run-through : mask_l (map is_escaped (chunk i n d)) ≡ 0 →
+      prefix_len is_unescaped (drop i d) ≡ n + prefix_len is_unescaped (drop (i + n) d)
   run-through none =
       split ∙ cond-true _ _ _ (eq-eqb _ _ (leading_from_mask_l is_escaped (chunk i n d) none))
       ∙ ap (λ k. k + prefix_len is_unescaped (drop (i + n) d)) (length-chunk i n d room)
@@ -134,5 +143,6 @@ module _ (d : List ℕ) (i n : ℕ) (room : i + n ≤ length d) where
   pub run-stops : n ≤ 64 → 0 < mask_l (map is_escaped (chunk i n d)) →
       prefix_len is_unescaped (drop i d) ≡ count_trailing_zeros 64 (mask_l (map is_escaped (chunk i n d)))
   run-stops few some =
-      split ∙ cond-false _ _ _ (ne_eqb _ _ (λ (e : prefix_len is_unescaped (chunk i n d) ≡ length (chunk i n d)). omega (arith, none_escaped (chunk i n d) e)))
+      split ∙ cond-false _ _ _
+      (ne_eqb _ _ (λ (e : prefix_len is_unescaped (chunk i n d) ≡ length (chunk i n d)). omega (arith, none_escaped (chunk i n d) e)))
       ∙ sym (trailing_mask_l is_escaped 64 (chunk i n d) (omega (arith, length-chunk i n d room)) some)

@@ -2,11 +2,10 @@ pub mod Answer
 pub mod Bytes
 pub mod Count
 pub mod Json
-pub mod Level
+pub mod Next
 pub mod Plain
 pub mod Steps
 pub mod Tests
-pub mod Text
 pub mod Weight
 pub mod Whole
 pub mod Sorted

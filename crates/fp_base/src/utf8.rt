@@ -1,6 +1,6 @@
-//! Whether bytes are UTF-8, tested in pieces.
+//! Bytes as text: whether they are UTF-8, tested in pieces.
 
-ghost use Rattle.std.specs.Prelude.{◌≡◌, ◌<◌, ◌≤◌, ℕ, true, false, nat_le, nat_lt};
+ghost use Rattle.std.specs.Prelude.{◌≡◌, ◌<◌, ◌≤◌, ℕ, true, false, nat_le, nat_lt, MatchOption};
 ghost use Rattle.std.specs.Prelude.{get_or, length, map};
 ghost use Rattle.std.specs.Simd.Lanes.{mask_l};
 ghost use Rattle.std.specs.Str.{IsUtf8};
@@ -13,8 +13,19 @@ const TOGETHER: usize = 16;
 // Four times as many, in one test.
 const MANY: usize = 64;
 
+/// The text that the bytes are, `None` exactly where they aren't UTF-8.
+pub fn utf8_text(bytes: &[u8]) -> Option<&str>
+    ensures { MatchOption result (¬ (IsUtf8 bytes.now)) (λ text.
+        (text.now ≡ bytes.now) × IsUtf8 bytes.now) }
+{
+    if !is_utf8(bytes) {
+        return None;
+    }
+    Some(unsafe { str::from_utf8_unchecked(bytes) })
+}
+
 // Whether the bytes are UTF-8. ASCII is passed, and only what stands between is tested.
-pub(crate) fn is_utf8(bytes: &[u8]) -> bool
+fn is_utf8(bytes: &[u8]) -> bool
     ensures text { result ≡ true → IsUtf8 bytes.now }
     ensures none { result ≡ false → ¬ (IsUtf8 bytes.now) }
 {

@@ -1,8 +1,7 @@
-//! Walks over JSON that stop as soon as the answer is known, and allocate nothing.
+//! Walks over trees that stop as soon as the answer is known, and allocate nothing.
 
 ghost use Rattle.std.specs.Prelude.{◌≡◌, ◌≤◌, nat_le, true, false, not, length, is_some};
 ghost use Rattle.serde_json.specs.Data.{depth};
-ghost use Rattle.serde_json.specs.View.{view};
 ghost use Rattle.serde_json.specs.Written.{compact_text};
 ghost use Rattle.fp_base.specs.Count.{spend, count};
 ghost use Rattle.fp_base.specs.Plain.{plain_left};
@@ -10,32 +9,8 @@ ghost use Rattle.fp_base.specs.TreeView.{tree_view};
 ghost use Rattle.fp_base.specs.Weight.{weight};
 ghost use Rattle.fp_base.specs.Whole.{is_whole};
 
-use crate::levels::{Json, Level};
+use crate::next::{next_item, next_member};
 use crate::tree::Tree;
-use serde_json::Value;
-
-/// Whether no number in the value has a fraction, an exponent or more than 64 signed bits.
-/// `-0` counts as a fraction.
-pub fn whole_numbers(value: &Value) -> bool
-    ensures { result ≡ is_whole (view value.now) }
-{
-    is_whole(value)
-}
-
-/// Whether the value's lists and objects stand in one another at most `limit` deep.
-pub fn nests_within(value: &Value, limit: u32) -> bool
-    ensures { result ≡ nat_le (depth (view value.now)) limit }
-{
-    nests(value, limit)
-}
-
-/// What remains of a budget of values once this value and all in it are paid for, `None` exactly
-/// where they are more. Names of members cost nothing.
-pub fn values_left(value: &Value, budget: usize) -> Option<usize>
-    ensures { result ≡ spend budget (count (view value.now)) }
-{
-    count_left(value, budget)
-}
 
 impl<'a> Tree<'a> {
     /// Whether no number in the tree has a fraction, an exponent or more than 64 signed bits.
@@ -63,13 +38,14 @@ impl<'a> Tree<'a> {
 
     /// Whether texts and names, with one byte for each item and member, are more bytes than the
     /// limit: a cheap test by which nothing is printed.
+    #[tactic(auto, using(crate::proofs::TextLengths::too_heavy))]
     pub fn is_longer(&self, limit: usize) -> bool
         ensures weighed { result ≡ not (nat_le (weight (tree_view self.now)) limit) }
         // `true`: the canonical text is longer than the limit too.
         ensures longer { result ≡ true
             → nat_le (length (compact_text (tree_view self.now))) limit ≡ false }
     {
-        is_longer(self, limit)
+        bytes_left(self, limit).is_none()
     }
 
     /// Whether all numbers are whole, the tree nests at most `limit` deep, and isn't longer than
@@ -90,22 +66,24 @@ impl<'a> Tree<'a> {
     }
 }
 
-fn is_whole<J: Json>(json: J) -> bool
-    ensures { result ≡ is_whole (J.seen json) }
+fn is_whole(tree: &Tree<'_>) -> bool
+    ensures { result ≡ is_whole (tree_view tree.now) }
 {
-    match json.level() {
-        Level::Null | Level::Bool(_) | Level::String(_) => true,
-        Level::Number(number) => number.is_i64(),
-        Level::Array(mut items) => {
-            while let Some(item) = J::next_item(&mut items) {
+    match tree {
+        Tree::Null | Tree::Bool(_) | Tree::String(_) => true,
+        Tree::Number(number) => number.is_i64(),
+        Tree::Array(items) => {
+            let mut items = items.iter();
+            while let Some(item) = next_item(&mut items) {
                 if !is_whole(item) {
                     return false;
                 }
             }
             true
         }
-        Level::Object(mut members) => {
-            while let Some((_name, member)) = J::next_member(&mut members) {
+        Tree::Object(members) => {
+            let mut members = members.iter();
+            while let Some((_name, member)) = next_member(&mut members) {
                 if !is_whole(member) {
                     return false;
                 }
@@ -115,27 +93,29 @@ fn is_whole<J: Json>(json: J) -> bool
     }
 }
 
-fn nests<J: Json>(json: J, limit: u32) -> bool
-    ensures { result ≡ nat_le (depth (J.seen json)) limit }
+fn nests(tree: &Tree<'_>, limit: u32) -> bool
+    ensures { result ≡ nat_le (depth (tree_view tree.now)) limit }
 {
-    match json.level() {
-        Level::Null | Level::Bool(_) | Level::String(_) | Level::Number(_) => true,
-        Level::Array(mut items) => {
+    match tree {
+        Tree::Null | Tree::Bool(_) | Tree::String(_) | Tree::Number(_) => true,
+        Tree::Array(items) => {
             if limit == 0 {
                 return false;
             }
-            while let Some(item) = J::next_item(&mut items) {
+            let mut items = items.iter();
+            while let Some(item) = next_item(&mut items) {
                 if !nests(item, limit - 1) {
                     return false;
                 }
             }
             true
         }
-        Level::Object(mut members) => {
+        Tree::Object(members) => {
             if limit == 0 {
                 return false;
             }
-            while let Some((_name, member)) = J::next_member(&mut members) {
+            let mut members = members.iter();
+            while let Some((_name, member)) = next_member(&mut members) {
                 if !nests(member, limit - 1) {
                     return false;
                 }
@@ -146,20 +126,22 @@ fn nests<J: Json>(json: J, limit: u32) -> bool
 }
 
 #[tactic(auto, using(crate::proofs::Counted::count_some))]
-fn count_left<J: Json>(json: J, budget: usize) -> Option<usize>
-    ensures { result ≡ spend budget (count (J.seen json)) }
+fn count_left(tree: &Tree<'_>, budget: usize) -> Option<usize>
+    ensures { result ≡ spend budget (count (tree_view tree.now)) }
 {
     let mut left = budget.checked_sub(1)?;
-    match json.level() {
-        Level::Null | Level::Bool(_) | Level::String(_) | Level::Number(_) => Some(left),
-        Level::Array(mut items) => {
-            while let Some(item) = J::next_item(&mut items) {
+    match tree {
+        Tree::Null | Tree::Bool(_) | Tree::String(_) | Tree::Number(_) => Some(left),
+        Tree::Array(items) => {
+            let mut items = items.iter();
+            while let Some(item) = next_item(&mut items) {
                 left = count_left(item, left)?;
             }
             Some(left)
         }
-        Level::Object(mut members) => {
-            while let Some((_name, member)) = J::next_member(&mut members) {
+        Tree::Object(members) => {
+            let mut members = members.iter();
+            while let Some((_name, member)) = next_member(&mut members) {
                 left = count_left(member, left)?;
             }
             Some(left)
@@ -167,35 +149,28 @@ fn count_left<J: Json>(json: J, budget: usize) -> Option<usize>
     }
 }
 
-// Whether the text is surely longer than the limit.
-#[tactic(auto, using(crate::proofs::TextLengths::too_heavy))]
-pub(crate) fn is_longer<J: Json>(json: J, limit: usize) -> bool
-    ensures weighed { result ≡ not (nat_le (weight (J.seen json)) limit) }
-    ensures longer { result ≡ true → nat_le (length (compact_text (J.seen json))) limit ≡ false }
-{
-    bytes_left(json, limit).is_none()
-}
-
 // What remains of a budget of bytes after those that the canonical text takes at least.
-fn bytes_left<J: Json>(json: J, budget: usize) -> Option<usize>
-    ensures { result ≡ spend budget (weight (J.seen json)) }
+fn bytes_left(tree: &Tree<'_>, budget: usize) -> Option<usize>
+    ensures { result ≡ spend budget (weight (tree_view tree.now)) }
 {
-    match json.level() {
-        Level::Null | Level::Bool(_) | Level::Number(_) => Some(budget),
-        Level::String(text) => budget.checked_sub(text.len()),
-        Level::Array(mut items) => {
+    match tree {
+        Tree::Null | Tree::Bool(_) | Tree::Number(_) => Some(budget),
+        Tree::String(text) => budget.checked_sub(text.len()),
+        Tree::Array(items) => {
             let mut left = budget;
-            while let Some(item) = J::next_item(&mut items) {
+            let mut items = items.iter();
+            while let Some(item) = next_item(&mut items) {
                 left = left.checked_sub(1)?;
                 left = bytes_left(item, left)?;
             }
             Some(left)
         }
-        Level::Object(mut members) => {
+        Tree::Object(members) => {
             let mut left = budget;
-            while let Some((name, member)) = J::next_member(&mut members) {
+            let mut members = members.iter();
+            while let Some((name, member)) = next_member(&mut members) {
                 left = left.checked_sub(1)?;
-                left = left.checked_sub(J::name(&name).len())?;
+                left = left.checked_sub(name.len())?;
                 left = bytes_left(member, left)?;
             }
             Some(left)
@@ -204,32 +179,34 @@ fn bytes_left<J: Json>(json: J, budget: usize) -> Option<usize>
 }
 
 // What remains of the budget of bytes where all numbers are whole and it nests within the limit.
-fn plain_left<J: Json>(json: J, limit: u32, bytes: usize) -> Option<usize>
-    ensures { result ≡ plain_left limit bytes (J.seen json) }
+fn plain_left(tree: &Tree<'_>, limit: u32, bytes: usize) -> Option<usize>
+    ensures { result ≡ plain_left limit bytes (tree_view tree.now) }
 {
-    match json.level() {
-        Level::Null | Level::Bool(_) => Some(bytes),
-        Level::Number(number) => { if number.is_i64() { Some(bytes) } else { None } }
-        Level::String(text) => bytes.checked_sub(text.len()),
-        Level::Array(mut items) => {
+    match tree {
+        Tree::Null | Tree::Bool(_) => Some(bytes),
+        Tree::Number(number) => { if number.is_i64() { Some(bytes) } else { None } }
+        Tree::String(text) => bytes.checked_sub(text.len()),
+        Tree::Array(items) => {
             if limit == 0 {
                 return None;
             }
             let mut left = bytes;
-            while let Some(item) = J::next_item(&mut items) {
+            let mut items = items.iter();
+            while let Some(item) = next_item(&mut items) {
                 left = left.checked_sub(1)?;
                 left = plain_left(item, limit - 1, left)?;
             }
             Some(left)
         }
-        Level::Object(mut members) => {
+        Tree::Object(members) => {
             if limit == 0 {
                 return None;
             }
             let mut left = bytes;
-            while let Some((name, member)) = J::next_member(&mut members) {
+            let mut members = members.iter();
+            while let Some((name, member)) = next_member(&mut members) {
                 left = left.checked_sub(1)?;
-                left = left.checked_sub(J::name(&name).len())?;
+                left = left.checked_sub(name.len())?;
                 left = plain_left(member, limit - 1, left)?;
             }
             Some(left)

@@ -21,23 +21,6 @@ use serde_json::Number;
 use std::alloc::{AllocError, Global};
 
 impl<'a> Tree<'a> {
-    /// The canonical text, begun with room for so many bytes.
-    pub fn to_text(&self, alloc: Global, room: usize) -> Result<Vec<u8>, AllocError>
-        // Each number is whole.
-        requires whole { is_whole (tree_view self.now) ≡ true }
-        // It is no deeper than JSON is read.
-        requires flat { depth (tree_view self.now) ≤ max_depth }
-        // The tree is ordered.
-        requires ordered { IsOrdered (tree_view self.now) }
-        ensures text { IfOk result (λ t. t.items ≡ compact_text (tree_view self.now)) }
-        // `Ok`: the text is read as the same data again.
-        ensures reads { IfOk result (λ t. json_of t.items ≡ Some (tree_view self.now)) }
-    {
-        let mut out = Vec::with_capacity(alloc, room)?;
-        self.put_text(&mut out)?;
-        Ok(out)
-    }
-
     /// Puts the text without spaces behind what is there: the canonical text, where the tree is
     /// ordered.
     pub fn put_text(&self, out: &mut Vec<u8>) -> Result<(), AllocError>

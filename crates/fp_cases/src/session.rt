@@ -3,14 +3,14 @@
 ghost use Rattle.fp_base.specs.Ordered.{IsOrdered};
 ghost use Rattle.fp_base.specs.TreeView.{tree_view};
 
-use crate::data::put_datum;
+use crate::data::{datum_of, put_datum};
 use crate::requests::Asking;
 use crate::shapes::{Shapes, add_shape};
 use crate::shown::shown_set;
 use crate::streams::Subscriber;
 use crate::{definitions, edits, imports, operators, records, rules, seeded, values};
 use bumpalo::Bump;
-use fp_base::{Tree, read_json, read_tree};
+use fp_base::{Tree, read_tree};
 use fp_definition::{DefFault, Definition, FlagKey, KeyFault};
 use fp_edit::FlagSet;
 use fp_imports::{expand_document, expand_tree};
@@ -45,14 +45,15 @@ const HAVE_FIRST: [&str; 17] = [
     "shown",
 ];
 
-// The words whose operand is JSON.
-const TAKE_JSON: [&str; 13] = [
-    "json", "fits", "nests", "budget", "member", "op", "versions", "compile", "rule", "flag",
-    "resolve", "import", "data",
+// The words of `run_tree`, whose operand is JSON.
+const OF_TREES: [&str; 10] = [
+    "json", "fits", "nests", "budget", "member", "op", "versions", "flag", "resolve", "import",
 ];
 
-// The words of `run_value`, which takes its JSON; the others only read it.
-const TAKE_OVER: [&str; 5] = ["member", "flag", "resolve", "import", "data"];
+// The words of `run_value`, whose operand is JSON.
+const OF_VALUES: [&str; 7] = [
+    "json", "flag", "resolve", "import", "compile", "rule", "data",
+];
 
 // The words of `tell_bytes`.
 const OF_BYTES: [&str; 7] = [
@@ -159,7 +160,7 @@ impl Session {
     fn run(&mut self, word: &str, first: &str, operand: Vec<u8>, out: &mut Text) {
         if word == "let" {
             self.name_text(first, operand, out);
-        } else if TAKE_JSON.contains(&word) {
+        } else if OF_TREES.contains(&word) || OF_VALUES.contains(&word) {
             self.run_json(word, first, &operand, out);
         } else if OF_BYTES.contains(&word) {
             tell_bytes(word, number_in(first), &operand, out);
@@ -181,20 +182,18 @@ impl Session {
         }
     }
 
-    // Commands on JSON, by both of its readers: one makes a tree, and one a value. Where these have
-    // different answers that of the tree stands behind the other.
+    // Commands on JSON. What takes a value as well is answered by both of JSON's readers, of which one
+    // makes a tree and one a value. Where these have different answers that of the value stands
+    // behind the other.
     fn run_json(&mut self, word: &str, first: &str, operand: &[u8], out: &mut Text) {
-        let mut of_tree = out.another();
-        self.run_read_tree(word, first, operand, &mut of_tree);
-        match out.got(read_json(out.alloc, operand)) {
-            Some(Some(value)) => self.run_value(word, first, value, out),
-            _ => out.push("no JSON"),
+        if OF_TREES.contains(&word) {
+            self.run_read_tree(word, first, operand, out);
         }
-        if of_tree.text != out.text {
-            out.push(" BUT ITS TREE: ");
-            out.put(&of_tree);
+        if OF_VALUES.contains(&word) {
+            let mut of_value = out.another();
+            self.run_read_value(word, operand, &mut of_value);
+            put_beside(&of_value, out);
         }
-        out.is_short = out.is_short || of_tree.is_short;
     }
 
     fn run_read_tree(&self, word: &str, first: &str, operand: &[u8], out: &mut Text) {
@@ -217,26 +216,14 @@ impl Session {
     )
         requires { IsOrdered (tree_view tree.now) }
     {
-        if word == "import" {
-            return imports::imported(expand_tree(out.alloc, arena, tree), out);
-        }
-        self.run_shown_tree(word, first, tree, out)
-    }
-
-    // Commands that only read their tree.
-    fn run_shown_tree(&self, word: &str, first: &str, tree: &Tree<'_>, out: &mut Text)
-        requires { IsOrdered (tree_view tree.now) }
-    {
         let alloc = out.alloc;
         match word {
             "flag" => definitions::canonical(Definition::from_tree(alloc, tree), out),
             "resolve" => self.resolve(Definition::from_tree(alloc, tree), out),
-            "compile" => rules::compiled(rules::of_tree(alloc, tree), out),
-            "rule" => self.evaluate(rules::of_tree(alloc, tree), out),
+            "import" => imports::imported(expand_tree(alloc, arena, tree), out),
             "op" => operators::applied(&self.data, first, Datum::from_tree(alloc, tree), out),
             "versions" => operators::compared(first, Datum::from_tree(alloc, tree), out),
-            "data" => put_copy(Datum::from_tree(alloc, tree), out),
-            _ => values::of_tree(word, first, number_in(first), tree, out),
+            _ => values::looked_at(word, first, number_in(first), tree, out),
         }
     }
 
@@ -244,38 +231,31 @@ impl Session {
         definitions::resolved(&self.data, &self.key, self.now, made, out);
     }
 
-    fn evaluate(&self, made: Result<Rule, RuleFault>, out: &mut Text) {
-        rules::evaluated(&self.data, self.key.as_str(), self.now, made, out);
+    fn run_read_value(&mut self, word: &str, operand: &[u8], out: &mut Text) {
+        match Value::from_slice(out.alloc, operand) {
+            Ok(value) => self.run_value(word, value, out),
+            Err(fault) => {
+                out.push("no JSON");
+                out.is_short = fault.is_memory();
+            }
+        }
     }
 
-    fn run_value(&mut self, word: &str, first: &str, value: Value, out: &mut Text) {
-        if !TAKE_OVER.contains(&word) {
-            return self.run_shown_value(word, first, &value, out);
-        }
+    fn run_value(&mut self, word: &str, value: Value, out: &mut Text) {
         let alloc = out.alloc;
         match word {
-            "member" => values::member(first, value, out),
             "flag" => definitions::canonical(Definition::from_value(alloc, value), out),
             "resolve" => self.resolve(Definition::from_value(alloc, value), out),
             "import" => imports::imported(expand_document(alloc, value), out),
+            "compile" => rules::compiled(Rule::compile(alloc, &value), out),
+            "rule" => self.evaluate(Rule::compile(alloc, &value), out),
+            "json" => values::put_value(&value, out),
             _ => self.set_data(value, out),
         }
     }
 
-    // Commands that only read their value.
-    fn run_shown_value(&self, word: &str, first: &str, value: &Value, out: &mut Text) {
-        let alloc = out.alloc;
-        let number = number_in(first);
-        match word {
-            "json" => values::put_canonical(value, out),
-            "fits" => values::fits(number, value, out),
-            "nests" => values::nests(number, value, out),
-            "budget" => values::budget(number, value, out),
-            "op" => operators::applied(&self.data, first, Datum::from_value(alloc, value), out),
-            "versions" => operators::compared(first, Datum::from_value(alloc, value), out),
-            "compile" => rules::compiled(Rule::compile(alloc, value), out),
-            _ => self.evaluate(Rule::compile(alloc, value), out),
-        }
+    fn evaluate(&self, made: Result<Rule, RuleFault>, out: &mut Text) {
+        rules::evaluated(&self.data, self.key.as_str(), self.now, made, out);
     }
 
     // Commands on the set, and on the key.
@@ -345,7 +325,7 @@ impl Session {
 
     // The data of operators and rules, shown as they are copied.
     fn set_data(&mut self, value: Value, out: &mut Text) {
-        put_copy(Datum::from_value(out.alloc, &value), out);
+        put_copy(datum_of(out.alloc, &value), out);
         self.data = value;
     }
 
@@ -362,6 +342,17 @@ impl Session {
             Err(KeyFault::Memory) => out.is_short = true,
         }
     }
+}
+
+// An answer beside another one, where it is different.
+fn put_beside(answer: &Text, out: &mut Text) {
+    if out.is_empty() {
+        out.push(answer.as_str());
+    } else if answer.text != out.text {
+        out.push(" BUT ITS VALUE: ");
+        out.push(answer.as_str());
+    }
+    out.is_short = out.is_short || answer.is_short;
 }
 
 // What bytes are: a definition, an edit line, a batch, an image.

@@ -86,7 +86,7 @@ impl Definition {
     {
         let arena = Bump::new(alloc);
         let tree = Tree::of_value(&arena, &value)?;
-        made(alloc, &tree)
+        Definition::from_tree(alloc, &tree)
     }
 
     /// As `from_value`, of a tree of JSON.
@@ -102,18 +102,12 @@ impl Definition {
         // `Err`: the first fault that the data have, in the order of the tests, or `Memory`.
         ensures refused { IfErr result (IsFirst Tells (first_fault (tree_view tree.now))) }
     {
-        made(alloc, tree)
+        let spelled = text_of(alloc, tree)?;
+        finished(alloc, tree, spelled, None)
     }
 
     /// The definition whose canonical text the bytes are, and `None` exactly where they are no such
-    /// text. The bytes are read once.
-    pub fn from_text(alloc: Global, text: &[u8]) -> Result<Option<Definition>, AllocError>
-        ensures { IfOk result (λ o. o ≡ definition_in text.now) }
-    {
-        read_text(alloc, text, None)
-    }
-
-    /// As `from_text`, beside another definition, if there is one. Bytes that are the other's text
+    /// text; read beside another definition, if there is one. Bytes that are the other's text
     /// give a share of it; where `targeting` is spelled as the other's, its rule is shared, and
     /// neither read nor compiled again. Bytes that are no definition's text may be read twice.
     pub fn from_text_beside(
@@ -135,7 +129,7 @@ impl Definition {
         }
     }
 
-    /// The canonical text, which `from_text` takes.
+    /// The canonical text, which `from_text_beside` takes.
     pub fn text(&self) -> &[u8]
         ensures text { result.now ≡ self.now }
         // It is the canonical text of a valid definition.
@@ -206,18 +200,6 @@ impl Definition {
         let share = Arc::try_clone(&self.share)?;
         Ok(Definition { share })
     }
-}
-
-// The definition that a tree is.
-fn made(alloc: Global, tree: &Tree<'_>) -> Result<Definition, DefFault>
-    requires { IsOrdered (tree_view tree.now) }
-    ensures valid { IfOk result (λ _. IsValid (tree_view tree.now)) }
-    ensures text { IfOk result (λ d. d ≡ compact_text (tree_view tree.now)) }
-    ensures reads { IfOk result (λ d. json_of d ≡ Some (tree_view tree.now)) }
-    ensures refused { IfErr result (IsFirst Tells (first_fault (tree_view tree.now))) }
-{
-    let spelled = text_of(alloc, tree)?;
-    finished(alloc, tree, spelled, None)
 }
 
 // The definition whose canonical text this is, which meets the tests of its size. The tree has its

@@ -4,15 +4,12 @@ ghost use Rattle.std.specs.Prelude.{◌≡◌, IfOk, OnErr, true};
 ghost use Rattle.fp_base.specs.Ordered.{IsOrdered, AreOrdered, MembersAreOrdered};
 ghost use Rattle.fp_base.specs.Sorted.{IsSorted};
 ghost use Rattle.fp_base.specs.TreeView.{tree_view, tree_items, tree_members};
-ghost use Rattle.serde_json.specs.View.{view as json_view};
 ghost use Rattle.fp_operators.specs.View.{view, items_view, members_view};
 ghost use Rattle.fp_operators.specs.FromJson.{data_of, items_from, members_from};
 ghost use Rattle.fp_operators.specs.Memory.{takes_memory};
 
 use crate::kept_text::Text;
-use bumpalo::Bump;
 use fp_base::Tree;
-use serde_json::Value;
 use std::alloc::{AllocError, Global};
 use std::collections::BTreeMap;
 
@@ -34,17 +31,8 @@ pub enum Datum {
 }
 
 impl Datum {
-    /// The datum that a JSON value writes. A number that isn't whole becomes null, so callers
-    /// refuse such a value.
-    pub fn from_value(alloc: Global, value: &Value) -> Result<Datum, AllocError>
-        ensures { IfOk result (λ d. view d ≡ data_of (json_view value.now)) }
-    {
-        let arena = Bump::new(alloc);
-        let tree = Tree::of_value(&arena, value)?;
-        Datum::from_tree(alloc, &tree)
-    }
-
-    /// The same of a tree of JSON.
+    /// The datum that a tree of JSON writes. A number that isn't whole becomes null, so callers
+    /// refuse such a tree.
     #[cycle(from_tree)]
     pub fn from_tree(alloc: Global, tree: &Tree<'_>) -> Result<Datum, AllocError>
         // The tree is ordered.

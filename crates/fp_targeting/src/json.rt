@@ -121,7 +121,7 @@ fn is_scalar(json: &Json<'_>, datum: &Datum) -> bool
     }
 }
 
-/// Whether no instruction is needed for a value, as `Code::operand` finds.
+/// Whether no instruction is needed for a value, as `Builder::operand` finds.
 pub fn is_lent(json: &Json<'_>) -> bool
     requires { IsOrdered (tree_view json.now) }
 {

@@ -22,7 +22,7 @@ use crate::build::code_of;
 use crate::data::Data;
 use crate::names::unknown_operator;
 use bumpalo::Bump;
-use fp_base::{Tree as Json, nests_within};
+use fp_base::Tree as Json;
 use fp_machine::{Code, Found};
 use fp_operators::Datum;
 use serde_json::Value;
@@ -101,11 +101,11 @@ impl Rule {
     pub fn compile(alloc: Global, value: &Value) -> Result<Rule, RuleFault>
         ensures { Gives (λ rule. rule) Tells result (verdict (json_view value.now)) }
     {
-        if !nests_within(value, DEEPEST_RULE) {
-            return Err(RuleFault::TooDeep);
-        }
         let arena = Bump::new(alloc);
         let json = Json::of_value(&arena, value)?;
+        if !json.nests_within(DEEPEST_RULE) {
+            return Err(RuleFault::TooDeep);
+        }
         if !json.has_whole_numbers() {
             return Err(refusal(alloc, &json));
         }

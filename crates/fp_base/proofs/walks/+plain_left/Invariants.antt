@@ -1,25 +1,28 @@
 use Rattle.std.proofs.Common.{◌≡◌, ◌<◌, ◌-◌}
+use Rattle.std.specs.Slice.Iter.{iter_rest}
 use Rattle.serde_json.specs.Events.{items_len, members_len}
 use Rattle.fp_base.specs.Count.{count, items_count, members_count}
 use Rattle.fp_base.specs.Plain.{plain_left, items_plain_left, members_plain_left}
+use Rattle.fp_base.specs.TreeView.{tree_view, tree_items, tree_members}
 use Rattle.fp_base.proofs.walks.+plain_left.Given as goal
 
 abbrev pub decreases-plain_left : goal.decreases-plain_left
-decreases-plain_left g l = count (g.J.Json.seen l.json)
+decreases-plain_left l = count (tree_view l.tree.now)
 
 -- what is left decides for all
 abbrev pub invariant-loop-item : goal.invariant-loop-item
-invariant-loop-item g l =
-    (items_count (g.J.Json.listed l.items) < count (g.J.Json.seen l.fn.json))
-    × (items_plain_left (l.fn.limit - 1) l.left (g.J.Json.listed l.items) ≡ plain_left l.fn.limit l.fn.bytes (g.J.Json.seen l.fn.json))
+invariant-loop-item l =
+    (items_count (tree_items (iter_rest l.items)) < count (tree_view l.fn.tree))
+    × (items_plain_left (l.fn.limit - 1) l.left (tree_items (iter_rest l.items)) ≡ plain_left l.fn.limit l.fn.bytes (tree_view l.fn.tree))
 
 abbrev pub decreases-loop-item : goal.decreases-loop-item
-decreases-loop-item g l = items_len (g.J.Json.listed l.items)
+decreases-loop-item l = items_len (tree_items (iter_rest l.items))
 
 abbrev pub invariant-loop-name : goal.invariant-loop-name
-invariant-loop-name g l =
-    (members_count (g.J.Json.named l.members) < count (g.J.Json.seen l.fn.json))
-    × (members_plain_left (l.fn.limit - 1) l.left (g.J.Json.named l.members) ≡ plain_left l.fn.limit l.fn.bytes (g.J.Json.seen l.fn.json))
+invariant-loop-name l =
+    (members_count (tree_members (iter_rest l.members)) < count (tree_view l.fn.tree))
+    × (members_plain_left (l.fn.limit - 1) l.left (tree_members (iter_rest l.members))
+    ≡ plain_left l.fn.limit l.fn.bytes (tree_view l.fn.tree))
 
 abbrev pub decreases-loop-name : goal.decreases-loop-name
-decreases-loop-name g l = members_len (g.J.Json.named l.members)
+decreases-loop-name l = members_len (tree_members (iter_rest l.members))

@@ -1,28 +1,50 @@
-//! From a tree to a value that owns its texts, and from a value to a tree that borrows them.
+//! Values that own their texts: whether their numbers are whole, and the trees that borrow from them.
 
 ghost use Rattle.std.specs.Prelude.{◌≡◌, IfOk};
 ghost use Rattle.serde_json.specs.View.{view, items_view, members_view};
 ghost use Rattle.fp_base.specs.Ordered.{IsOrdered, AreOrdered, MembersAreOrdered};
 ghost use Rattle.fp_base.specs.Sorted.{IsSorted};
 ghost use Rattle.fp_base.specs.TreeView.{tree_view, tree_items, tree_members};
+ghost use Rattle.fp_base.specs.Whole.{is_whole};
 
+use crate::next::{next_named, next_value};
 use crate::numbers::number_tree;
 use crate::tree::Tree;
 use bumpalo::Bump;
 use bumpalo::collections::into_bump_slice;
 use serde_json::{Map, Value};
-use std::alloc::{AllocError, Global};
+use std::alloc::AllocError;
+
+/// Whether no number in the value has a fraction, an exponent or more than 64 signed bits.
+/// `-0` counts as a fraction.
+pub fn whole_numbers(value: &Value) -> bool
+    ensures { result ≡ is_whole (view value.now) }
+{
+    match value {
+        Value::Null | Value::Bool(_) | Value::String(_) => true,
+        Value::Number(number) => number.is_i64(),
+        Value::Array(items) => {
+            let mut items = items.iter();
+            while let Some(item) = next_value(&mut items) {
+                if !whole_numbers(item) {
+                    return false;
+                }
+            }
+            true
+        }
+        Value::Object(members) => {
+            let mut members = members.iter();
+            while let Some((_name, member)) = next_named(&mut members) {
+                if !whole_numbers(member) {
+                    return false;
+                }
+            }
+            true
+        }
+    }
+}
 
 impl<'a> Tree<'a> {
-    /// The value of the same data, which owns its texts.
-    pub fn to_value(&self, alloc: Global) -> Result<Value, AllocError>
-        // The tree is ordered.
-        requires { IsOrdered (tree_view self.now) }
-        ensures { IfOk result (λ v. view v ≡ tree_view self.now) }
-    {
-        owned(alloc, self)
-    }
-
     /// The tree of the same data, which borrows the value's texts. Its lists and objects stand in
     /// the arena.
     pub fn of_value(arena: &'a Bump, value: &'a Value) -> Result<Tree<'a>, AllocError>
@@ -32,49 +54,6 @@ impl<'a> Tree<'a> {
     {
         lent(arena, value)
     }
-}
-
-#[cycle(owns)]
-fn owned(alloc: Global, tree: &Tree<'_>) -> Result<Value, AllocError>
-    ensures { IsOrdered (tree_view tree.now) → IfOk result (λ v. view v ≡ tree_view tree.now) }
-{
-    match tree {
-        Tree::Null => Ok(Value::Null),
-        Tree::Bool(b) => Ok(Value::Bool(*b)),
-        Tree::Number(number) => Ok(Value::Number(*number)),
-        Tree::String(text) => Ok(Value::String(String::from_str(alloc, text)?)),
-        Tree::Array(items) => Ok(Value::Array(owned_items(alloc, items)?)),
-        Tree::Object(members) => Ok(Value::Object(owned_members(alloc, members)?)),
-    }
-}
-
-#[cycle(owns)]
-fn owned_items(alloc: Global, items: &[Tree<'_>]) -> Result<Vec<Value>, AllocError>
-    ensures { AreOrdered (tree_items items.now)
-        → IfOk result (λ found. items_view found.items ≡ tree_items items.now) }
-{
-    let mut found = Vec::with_capacity(alloc, items.len())?;
-    for item in items {
-        found.push(owned(alloc, item)?)?;
-    }
-    Ok(found)
-}
-
-#[cycle(owns)]
-fn owned_members(
-    alloc: Global,
-    members: &[(&str, Tree<'_>)],
-) -> Result<Map<String, Value>, AllocError>
-    ensures { IsSorted (tree_members members.now)
-        → MembersAreOrdered (tree_members members.now)
-        → IfOk result (λ found. members_view found.entries ≡ tree_members members.now) }
-{
-    let mut found = Vec::with_capacity(alloc, members.len())?;
-    for member in members {
-        let name = String::from_str(alloc, member.0)?;
-        found.push((name, owned(alloc, &member.1)?))?;
-    }
-    Ok(found.into_iter().collect(alloc)?)
 }
 
 #[cycle(lends)]

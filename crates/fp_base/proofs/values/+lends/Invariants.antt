@@ -3,7 +3,7 @@ use Rattle.serde_json.specs.View.{view, members_view}
 use Rattle.serde_json.proofs.Views.{Entry}
 use Rattle.fp_base.specs.Ordered.{AreOrdered, MembersAreOrdered}
 use Rattle.fp_base.specs.TreeView.{tree_view, tree_items, tree_members}
-use Rattle.fp_base.proofs.owning.+lends.Given as goal
+use Rattle.fp_base.proofs.values.+lends.Given as goal
 
 abbrev pub invariant-lent_items-loop-item : goal.invariant-lent_items-loop-item
 invariant-lent_items-loop-item l =

@@ -7,7 +7,7 @@ use Rattle.fp_base.specs.Sorted.{IsSorted}
 use Rattle.fp_base.specs.TreeView.{Entry, tree_view, tree_items, tree_members}
 use Rattle.fp_base.proofs.Entries.{items_ordered-more, members_ordered-more, same-more, sorted-keys}
 use Rattle.fp_base.proofs.Turns.{take-here}
-use Rattle.fp_base.proofs.owning.+lends.Goals as goal
+use Rattle.fp_base.proofs.values.+lends.Goals as goal
 
 pub lent_items-loop-item-preserved : goal.lent_items-loop-item-preserved
 lent_items-loop-item-preserved t c =
