@@ -1,5 +1,8 @@
 //! A service whose answers are counted.
 
+ghost use Rattle.std.specs.Prelude.{◌≡◌};
+
+use crate::informed::Informed;
 use bytes::Bytes;
 use fp_connections::Tally;
 use http::Request;
@@ -13,6 +16,20 @@ pub(crate) struct Counting<S: Drop> {
     pub(crate) tally: Tally,
     // How many calls it answered, counted round.
     pub(crate) calls: u64,
+}
+
+impl<S: Drop> Counting<S> {
+    /// Counts a request that was refused with this status.
+    pub(crate) fn count_refusal<N>(&mut self, refusal: Option<u16>)
+    where
+        S: Informed<N>,
+        ensures { self.new.service ≡ self.old.service }
+    {
+        if let Some(status) = refusal {
+            self.tally.answered(status);
+            self.service.refused(status);
+        }
+    }
 }
 
 impl<S: Service + Drop> Service for Counting<S> {

@@ -15,7 +15,7 @@ use crate::turn::Turn;
 use fp_connections::{Role, Tally};
 use fp_news::{Newest, News};
 use http_server::Service;
-use std::alloc::Global;
+use std::alloc::{AllocError, Global};
 
 /// A connection for what it is for.
 #[derive(Drop)]
@@ -33,6 +33,26 @@ pub(crate) struct Member<N: News + Drop> {
 }
 
 impl<N: News + Drop> Member<N> {
+    /// One for what this role says, with nothing to do yet.
+    pub(crate) fn new(
+        beginning: &Beginning,
+        role: Role,
+        socket: Socket,
+        now: u64,
+    ) -> Result<Member<N>, AllocError> {
+        let alloc = beginning.alloc;
+        let kind = match role {
+            Role::Requests => {
+                Kind::Requests(Box::new(alloc, Peer::new(beginning, socket, now))?)
+            }
+            Role::Frames => Kind::Frames(Box::new(alloc, Subscriber::new(socket, now))?),
+        };
+        Ok(Member {
+            kind,
+            is_queued: false,
+        })
+    }
+
     pub(crate) fn role(&self) -> Role {
         match self.kind {
             Kind::Requests(_) => Role::Requests,
@@ -85,16 +105,9 @@ impl<N: News + Drop> Member<N> {
         }
     }
 
-    /// Whether it has kept the loop waiting for too long.
-    pub(crate) fn is_over_time(&self, limits: &Limits, now: u64) -> bool {
-        match &self.kind {
-            Kind::Requests(peer) => peer.is_over_time(limits, now),
-            Kind::Frames(subscriber) => subscriber.is_over_time(limits, now),
-        }
-    }
-
-    /// Lets go of memory that it doesn't need. Answers whether it may go on.
-    pub(crate) fn shrink<S: Service + Drop>(
+    /// Lets go of memory that it doesn't need. Answers whether it may go on, which it may not where
+    /// it has kept the loop waiting for too long.
+    pub(crate) fn look_after<S: Service + Drop>(
         &mut self,
         beginning: &Beginning,
         service: &mut Counting<S>,
@@ -104,8 +117,8 @@ impl<N: News + Drop> Member<N> {
         ensures { Serves S.answers service.old.service service.new.service }
     {
         match &mut self.kind {
-            Kind::Requests(peer) => peer.shrink(beginning, service, limits, now),
-            Kind::Frames(_) => true,
+            Kind::Requests(peer) => peer.look_after(beginning, service, limits, now),
+            Kind::Frames(subscriber) => !subscriber.is_over_time(limits, now),
         }
     }
 }

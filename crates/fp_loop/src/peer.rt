@@ -1,6 +1,6 @@
 //! One connection for requests, as steps that don't wait.
 
-ghost use Rattle.std.specs.Prelude.{◌≡◌, ◌≢◌, ◌↔◌, None, Some, IfSome, IsTrue};
+ghost use Rattle.std.specs.Prelude.{◌≡◌, ◌≢◌, ◌↔◌, Some, IfSome, IsTrue};
 ghost use Rattle.fp_loop.specs.Times.{IsOver, limit_of};
 ghost use Rattle.http_server.specs.History.{IsServed};
 ghost use Rattle.fp_loop.specs.declared.times.Waiting.TheVariants.{Leaving};
@@ -10,17 +10,13 @@ ghost use Rattle.fp_loop.specs.Talks.{Serves, Talks};
 
 use crate::counting::Counting;
 use crate::refusal::status_of;
-use crate::socket::{Socket, is_passing};
+use crate::socket::{Socket, has_ended};
 use crate::talk::{Beginning, hear, is_at_rest, say};
 use crate::times::{Limits, Waiting, is_over_time};
-use crate::turn::Turn;
+use crate::turn::{ROUNDS, Turn};
 use http_server::{Connection, Reason, Service, State};
-use std::io::Read;
 use std::mem;
 use std::net::Shutdown;
-
-// How many reads and writes one turn may take, so that a busy connection leaves time for others.
-const ROUNDS: u32 = 16;
 
 // How many requests one turn may answer: an answer may take long.
 const CALLS: u64 = 2;
@@ -94,7 +90,7 @@ impl Peer {
         ensures config { config_of self.new ≡ config_of self.old }
     {
         if self.waiting == Waiting::Leaving {
-            return Some(self.see_off());
+            return Some(self.socket.see_off());
         }
         let turn = if self.connection.wants_write() && self.socket.may_write {
             self.send(service, now)
@@ -223,7 +219,7 @@ impl Peer {
     /// over. Who was sent the last of it is waited for.
     pub(crate) fn finish(&mut self, now: u64) -> Turn {
         if self.waiting == Waiting::Leaving {
-            return self.see_off();
+            return self.socket.see_off();
         }
         for _ in 0..ROUNDS {
             if !self.connection.wants_write() {
@@ -233,11 +229,8 @@ impl Peer {
             if !self.socket.may_write {
                 return Turn::Waits;
             }
-            match self.connection.write_to(&mut self.socket) {
-                Ok(0) => return Turn::Over,
-                Ok(_) => {}
-                Err(fault) if is_passing(fault.kind()) => {}
-                Err(_) => return Turn::Over,
+            if has_ended(self.connection.write_to(&mut self.socket)) {
+                return Turn::Over;
             }
         }
         Turn::Goes
@@ -250,36 +243,16 @@ impl Peer {
         self.refused.take()
     }
 
-    // Reads what the peer still says, and drops it, until it leaves.
-    fn see_off(&mut self) -> Turn
-        ensures connection { self.new.connection ≡ self.old.connection }
-        ensures waiting { self.new.waiting ≡ self.old.waiting }
-    {
-        let mut bytes = [0; 4096];
-        for _ in 0..ROUNDS {
-            if !self.socket.may_read {
-                return Turn::Waits;
-            }
-            match self.socket.read(&mut bytes) {
-                Ok(0) => return Turn::Over,
-                Ok(_) => {}
-                Err(fault) if is_passing(fault.kind()) => {}
-                Err(_) => return Turn::Over,
-            }
-        }
-        Turn::Goes
-    }
-
-    /// Whether it has kept the loop waiting for too long.
-    pub(crate) fn is_over_time(&self, limits: &Limits, now: u64) -> bool
+    // Whether it has kept the loop waiting for too long.
+    fn is_over_time(&self, limits: &Limits, now: u64) -> bool
         ensures { IsTrue result ↔ IsOver (limit_of limits.now self.now.waiting) self.now.since now }
     {
         is_over_time(limits, self.waiting, self.since, now)
     }
 
     /// Lets go of memory that a long request or reply took, where it has been quiet for a while.
-    /// Answers whether it may go on.
-    pub(crate) fn shrink<S: Service + Drop>(
+    /// Answers whether it may go on, which it may not where it has kept the loop waiting for too long.
+    pub(crate) fn look_after<S: Service + Drop>(
         &mut self,
         beginning: &Beginning,
         service: &mut Counting<S>,
@@ -290,6 +263,9 @@ impl Peer {
         ensures quiets { IsTrue result → Quiets S.answers service.old.service service.new.service
             self.old self.new }
     {
+        if self.is_over_time(limits, now) {
+            return false;
+        }
         // A request may have begun where what came wasn't read by parts: it has its time.
         let quiet = if self.socket.parts {
             QUIET

@@ -3,6 +3,7 @@
 ghost use Rattle.std.specs.Prelude.{◌≡◌, ◌++◌, ◌≤◌, length};
 ghost use Rattle.std.specs.Io.{WritesAtMost};
 
+use crate::turn::{ROUNDS, Turn};
 use mio::net::TcpStream;
 use std::io;
 use std::io::{ErrorKind, IoSlice, Read, Write};
@@ -89,6 +90,20 @@ impl Socket {
         1
     }
 
+    /// Reads what the peer still says, and drops it, until it leaves.
+    pub(crate) fn see_off(&mut self) -> Turn {
+        let mut bytes = [0; 4096];
+        for _ in 0..ROUNDS {
+            if !self.may_read {
+                return Turn::Waits;
+            }
+            if has_ended(self.read(&mut bytes)) {
+                return Turn::Over;
+            }
+        }
+        Turn::Goes
+    }
+
     /// Writes both, one behind the other, by one call. It may stop anywhere.
     pub(crate) fn write_both(&mut self, first: &[u8], second: &[u8]) -> io::Result<usize>
         ensures writes { WritesAtMost result (first.now ++ second.now) }
@@ -143,6 +158,23 @@ impl Write for Socket {
 
     fn flush(&mut self) -> io::Result<()> {
         Ok(())
+    }
+}
+
+/// Whether a socket of which a call came to this gives or takes nothing more.
+pub(crate) fn has_ended(outcome: io::Result<usize>) -> bool {
+    match outcome {
+        Ok(count) => count == 0,
+        Err(fault) => !is_passing(fault.kind()),
+    }
+}
+
+/// What a turn comes to at a failed call: it waits, where the call is to be made again.
+pub(crate) fn turn_after(fault: io::Error) -> Turn {
+    if is_passing(fault.kind()) {
+        Turn::Waits
+    } else {
+        Turn::Over
     }
 }
 

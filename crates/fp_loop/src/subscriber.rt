@@ -6,16 +6,13 @@ ghost use Rattle.fp_loop.specs.Subscribers.{CanDoNothing, HasAll, TellsOn};
 ghost use Rattle.fp_loop.specs.declared.turn.Turn.TheVariants.{Goes, Waits};
 
 use crate::heard::{Heard, hello_of};
-use crate::socket::{Socket, is_passing};
+use crate::socket::{Socket, is_passing, turn_after};
 use crate::times::{Limits, Waiting, is_over_time};
-use crate::turn::Turn;
+use crate::turn::{ROUNDS, Turn};
 use fp_connections::Tally;
 use fp_news::{Newest, News, Outgoing};
 use std::io::Read;
 use std::sync::Arc;
-
-// How many reads or writes one turn may take.
-const ROUNDS: u32 = 16;
 
 /// A connection for frames.
 #[derive(Drop)]
@@ -226,7 +223,6 @@ fn sent_once<N: News + Drop>(
             tally.frame_bytes = tally.frame_bytes.saturating_add(count as u64);
             Turn::Goes
         }
-        Err(fault) if is_passing(fault.kind()) => Turn::Waits,
-        Err(_) => Turn::Over,
+        Err(fault) => turn_after(fault),
     }
 }

@@ -7,7 +7,7 @@ ghost use Rattle.fp_loop.specs.Talks.{Serves, Hears, Rested, Says};
 ghost use Rattle.fp_loop.specs.declared.talk.TheConstants.{MOST_REQUEST};
 
 use crate::counting::Counting;
-use crate::socket::is_passing;
+use crate::socket::turn_after;
 use crate::turn::Turn;
 use http_server::{Config, Connection, Reason, Service, State};
 use http1::Limits as HeadLimits;
@@ -81,8 +81,7 @@ pub(crate) fn say<S: Service + Drop, W: Write>(
     let paused = !connection.wants_read();
     let turn = match connection.write_to(writer) {
         Ok(count) => after_write(count),
-        Err(fault) if is_passing(fault.kind()) => return Turn::Waits,
-        Err(_) => return Turn::Over,
+        Err(fault) => return turn_after(fault),
     };
     if paused {
         connection.advance(service);
@@ -112,8 +111,7 @@ pub(crate) fn hear<S: Service + Drop, R: Read>(
             connection.advance(service);
             Ok(count)
         }
-        Err(fault) if is_passing(fault.kind()) => Err(Turn::Waits),
-        Err(_) => Err(Turn::Over),
+        Err(fault) => Err(turn_after(fault)),
     }
 }
 

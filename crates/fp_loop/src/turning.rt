@@ -1,6 +1,6 @@
 //! The loop of one thread over its connections.
 
-ghost use Rattle.std.specs.Prelude.{◌≡◌, ◌≢◌, ◌+◌, ◌<◌, ◌^◌, ◌⊎◌, [], IsSomeAnd, IsTrue};
+ghost use Rattle.std.specs.Prelude.{◌≡◌, ◌≢◌, [], IsSomeAnd};
 ghost use Rattle.std.specs.Prelude.{IfSome, IsFalse, None};
 ghost use Rattle.std.specs.Duration.{as_nanos};
 ghost use Rattle.slab.specs.Slab.{get};
@@ -13,7 +13,7 @@ use crate::counting::Counting;
 use crate::inbox::Inbox;
 use crate::informed::Informed;
 use crate::member::Member;
-use crate::queue::{mark_member, put};
+use crate::queue::{WAKE, keep_if, mark, remove};
 use crate::talk::Beginning;
 use crate::times::Limits;
 use crate::turn::Turn;
@@ -32,9 +32,6 @@ use std::{io, mem, thread};
 // How many events one wait gives.
 const EVENTS: usize = 1024;
 
-// The token of the waker, which is no connection's.
-const WAKE: usize = usize::MAX;
-
 // Between two looks at the limits of time, in milliseconds.
 const SWEEP: u64 = 1000;
 
@@ -43,6 +40,29 @@ const SWEEP: u64 = 1000;
 const LAST: u64 = 2000;
 
 const LAST_WAIT: u64 = 100;
+
+// What a loop waits by, is handed things by, and begins connections with.
+#[derive(Drop)]
+struct Parts<N: News + Drop> {
+    poll: Poll,
+    events: Events,
+    inbox: Arc<Inbox<N>, Global>,
+    beginning: Beginning,
+}
+
+impl<N: News + Drop> Parts<N> {
+    fn new<R: Net + RandomSource>(rt: &R, alloc: Global) -> io::Result<Parts<N>> {
+        let poll = Poll::new(rt)?;
+        let waker = Waker::new(poll.registry(), Token(WAKE))?;
+        let beginning = Beginning::new(alloc, RandomState::new(rt)?);
+        Ok(Parts {
+            poll,
+            events: Events::with_capacity(alloc, EVENTS)?,
+            inbox: Arc::new(alloc, Inbox::new(alloc, waker))?,
+            beginning,
+        })
+    }
+}
 
 /// A loop over connections, which one thread runs.
 #[derive(Drop)]
@@ -79,13 +99,16 @@ where
         limits: Limits,
         counts: Arc<Counts, Global>,
     ) -> io::Result<Loop<S, N>> {
-        let poll = Poll::new(rt)?;
-        let waker = Waker::new(poll.registry(), Token(WAKE))?;
-        let beginning = Beginning::new(alloc, RandomState::new(rt)?);
+        let Parts {
+            poll,
+            events,
+            inbox,
+            beginning,
+        } = Parts::new(rt, alloc)?;
         Ok(Loop {
             poll,
-            events: Events::with_capacity(alloc, EVENTS)?,
-            inbox: Arc::new(alloc, Inbox::new(alloc, waker))?,
+            events,
+            inbox,
             members: Slab::new(alloc),
             queue: Vec::new(alloc),
             service: Counting {
@@ -127,11 +150,12 @@ where
     {
         self.wait(rt);
         let now = milliseconds(rt);
-        let is_woken = self.mark();
+        // Where the waker was used, the inbox has something.
+        let is_woken = mark(&self.events, &mut self.members, &mut self.queue);
         self.take_turns(now);
         let is_due = now.saturating_sub(self.swept) >= SWEEP;
         self.look_in(rt, is_woken || is_due, now);
-        self.look_round(is_due, now);
+        self.sweep(is_due, now);
         self.tell();
         !self.end_if_over(now)
     }
@@ -146,27 +170,6 @@ where
         }
     }
 
-    // Does what was handed in asks for, where it is time to look.
-    fn look_in<R: Wait>(&mut self, rt: &R, is_time: bool, now: u64)
-        ensures { RunsOn S.answers S.informs self.old self.new }
-    {
-        if !is_time {
-            return;
-        }
-        self.collect(rt, now);
-    }
-
-    // Looks at the limits of time, where it is time to.
-    fn look_round(&mut self, is_time: bool, now: u64)
-        ensures { RunsOn S.answers S.informs self.old self.new }
-    {
-        if !is_time {
-            return;
-        }
-        self.swept = now;
-        self.sweep(now);
-    }
-
     // Ends all connections where it was stopped, and nothing is being sent any more or the time for
     // that is over. Answers whether it did.
     fn end_if_over(&mut self, now: u64) -> bool
@@ -178,7 +181,10 @@ where
         if now < returns && !self.members.is_empty() {
             return false;
         }
-        self.end();
+        for key in 0..self.members.capacity() {
+            remove(&mut self.members, &self.counts, key);
+        }
+        self.tell();
         true
     }
 
@@ -197,22 +203,6 @@ where
         }
     }
 
-    // Tells each connection what its socket is ready for. Answers whether the inbox has something.
-    fn mark(&mut self) -> bool
-        ensures { KeepsOn self.old self.new }
-    {
-        let mut is_woken = false;
-        for event in &self.events {
-            let Token(key) = event.token();
-            if key == WAKE {
-                is_woken = true;
-            } else {
-                mark_member(&mut self.members, &mut self.queue, key, event);
-            }
-        }
-        is_woken
-    }
-
     // Gives each connection in the queue its turn. Those that could go on stay there.
     fn take_turns(&mut self, now: u64)
         ensures { RunsOn S.answers S.informs self.old self.new }
@@ -223,22 +213,9 @@ where
                 return;
             };
             let goes = self.take_turn(key, now);
-            kept = self.keep_if(goes, kept, key);
+            kept = keep_if(&mut self.queue, goes, kept, key);
         }
         self.queue.truncate(kept);
-    }
-
-    // Puts a key at this place of the queue, where its connection could go on. Gives how many stand
-    // there then.
-    fn keep_if(&mut self, goes: bool, kept: usize, key: usize) -> usize
-        ensures on { KeepsOn self.old self.new }
-        ensures counted { IsTrue goes → kept + 1 < 2 ^ 64 → result ≡ kept + 1 }
-    {
-        if !goes {
-            return kept;
-        }
-        put(&mut self.queue, kept, key);
-        kept.saturating_add(1)
     }
 
     // Gives one its turn. Answers whether it could go on.
@@ -252,7 +229,7 @@ where
         if turn != Turn::Over {
             return turn == Turn::Goes;
         }
-        self.remove(key);
+        remove(&mut self.members, &self.counts, key);
         false
     }
 
@@ -268,35 +245,19 @@ where
         let turn = member.turn(&mut self.service, &self.shown, ends, now);
         member.is_queued = turn == Turn::Goes;
         let refusal = member.take_refusal();
-        self.count_refusal(refusal);
+        self.service.count_refusal(refusal);
         turn
     }
 
-    // Counts a request that was refused with this status.
-    fn count_refusal(&mut self, refusal: Option<u16>)
-        ensures on { KeepsOn self.old self.new }
-        ensures members { self.new.members ≡ self.old.members }
-    {
-        if let Some(status) = refusal {
-            self.service.tally.answered(status);
-            self.service.service.refused(status);
-        }
-    }
-
-    fn remove(&mut self, key: usize)
-        ensures on { KeepsOn self.old self.new }
-        ensures gone { get self.new.members key ≡ None }
-    {
-        if let Some(member) = self.members.try_remove(key) {
-            self.counts.left(member.role());
-        }
-    }
-
-    // Ends those that kept the loop waiting for too long, and has those that are quiet let go of
-    // memory.
-    fn sweep(&mut self, now: u64)
+    // Where it is time to look at the limits of time, ends those that kept the loop waiting for too
+    // long, and has those that are quiet let go of memory.
+    fn sweep(&mut self, is_time: bool, now: u64)
         ensures { RunsOn S.answers S.informs self.old self.new }
     {
+        if !is_time {
+            return;
+        }
+        self.swept = now;
         for key in 0..self.members.capacity() {
             self.tend(key, now);
         }
@@ -308,7 +269,7 @@ where
         if self.look_after(key, now) {
             return;
         }
-        self.remove(key);
+        remove(&mut self.members, &self.counts, key);
     }
 
     // Answers whether this one may go on.
@@ -318,8 +279,7 @@ where
         let Some(member) = self.members.get_mut(key) else {
             return true;
         };
-        !member.is_over_time(&self.limits, now)
-            && member.shrink(&self.beginning, &mut self.service, &self.limits, now)
+        member.look_after(&self.beginning, &mut self.service, &self.limits, now)
     }
 
     // Adds what happened to what is counted.
@@ -328,16 +288,6 @@ where
     {
         let tally = mem::replace(&mut self.service.tally, Tally::new());
         self.counts.add(&tally);
-    }
-
-    // Ends all connections.
-    fn end(&mut self)
-        ensures { KeepsOn self.old self.new }
-    {
-        for key in 0..self.members.capacity() {
-            self.remove(key);
-        }
-        self.tell();
     }
 }
 

@@ -1,4 +1,5 @@
 pub mod Stacks
+pub mod Joined
 pub mod Machines
 pub mod Frugal
 pub mod OneResult

@@ -1,6 +1,7 @@
 -- Running code: what is skipped, and one instruction after the other.
 use Rattle.std.proofs.Common.{◌≡◌, ◌≤◌, ◌<◌, ◌+◌, ◌-◌, ℕ, zero, suc, List, [], ◌∷◌, ◌++◌, length, map, take, drop}
-use Rattle.std.proofs.Common.{get_or, Some, None, option_and_then, refl, sym, ap, ◌∙◌, arith, if◌then◌else◌}
+use Rattle.std.proofs.Common.{get_or, Option, Some, None, option_and_then, refl, sym, ap, ap₂, subst, ◌∙◌, arith, if◌then◌else◌}
+use Rattle.std.proofs.Common.{Result, Ok, Err, IfOk, OnOk}
 use Rattle.std.proofs.lemmas.Bool.{le-leb}
 use Rattle.std.proofs.lemmas.List.{append-nil, take-append-drop, length-map, map-append, take_more, drop-take, length-take-le, length-drop}
 use Rattle.fp_base.proofs.Turns.{take-here}
@@ -8,7 +9,7 @@ use Rattle.fp_operators.specs.Data.{Data}
 use Rattle.fp_operators.specs.View.{view}
 use Rattle.fp_operators.specs.declared.datum.Datum.{Datum}
 use Rattle.fp_machine.specs.Found.{found_view, founds_view}
-use Rattle.fp_machine.specs.Machine.{Env, act, run, of_kept}
+use Rattle.fp_machine.specs.Machine.{Env, Turn, act, run, of_kept}
 use Rattle.fp_machine.specs.Stack.{onto, off}
 use Rattle.fp_machine.specs.declared.code.Step.{Step}
 use Rattle.fp_machine.specs.declared.machine.Found.{Found}
@@ -119,3 +120,17 @@ of-taken f n kept ds s e h =
     ap (λ b. if b then Some (0, f (off n (founds_view kept) []).0, (off n (founds_view kept) []).1) else None)
     (le-leb n _ (enough-kept n kept e))
     ∙ ap (λ (p : List Data × List Data). Some (0, f p.0, p.1)) h
+
+-- what a call did, of the instruction that is done
+pub of-step : {A : Type 0} {c e : Step} (env : Env) (root : Data) → c ≡ e → (r : Result ℕ A) (v w : Data) (s u : List Data) →
+    IfOk r (λ n. act env root e v s ≡ Some (n, w, u)) → IfOk r (λ n. act env root c v s ≡ Some (n, w, u))
+of-step env root is r v w s u does = subst (λ b. IfOk r (λ n. act env root b v s ≡ Some (n, w, u))) (sym is) does
+
+abbrev turn : ℕ → Data → List Data → Option Turn
+turn n d s = Some (n, d, s)
+
+-- nothing is skipped, and nothing more kept
+pub at-hand : {A : Type 0} (r : Result ℕ A) (d w : Data) (s : List Data) → OnOk r (w ≡ d) → IfOk r (λ n. n ≡ 0) →
+    IfOk r (λ n. turn 0 d s ≡ turn n w s)
+at-hand (Ok n) d w s e none = ap₂ (λ k x. turn k x s) (sym none) (sym e)
+at-hand (Err x) d w s e none = tt

@@ -277,13 +277,13 @@ impl Code {
             Step::One(operator, a) => Ok(self.do_one(*operator, a, root, null, at_hand)),
             Step::Two(operator, a, b) => Ok(self.do_two(*operator, a, b, root, null, at_hand)),
             Step::Three(operator, a, b) => {
-                Ok(self.do_three(alloc, *operator, a, b, root, null, at_hand)?)
+                self.do_three(alloc, *operator, a, b, root, null, at_hand)
             }
             Step::Second(operator) => Ok(second(*operator, at_hand, kept)),
-            Step::Third(operator) => Ok(third(alloc, *operator, at_hand, kept)?),
-            Step::Join(count) => Ok(join(alloc, *count, at_hand, kept)?),
-            Step::Collect(count) => Ok(collect(alloc, *count, at_hand, kept)?),
-            Step::Wrap => Ok(wrap(alloc, at_hand)?),
+            Step::Third(operator) => third(alloc, *operator, at_hand, kept),
+            Step::Join(count) => join(alloc, *count, at_hand, kept),
+            Step::Collect(count) => collect(alloc, *count, at_hand, kept),
+            Step::Wrap => wrap(alloc, at_hand),
             Step::Split(operand, table) => {
                 let key = self.look(operand, at_hand, root, null);
                 Ok(lend(table.chosen_by(key), at_hand))

@@ -8,14 +8,12 @@ ghost use Rattle.fp_news.specs.Newest.{had, Rises};
 use super::{LAST, Loop};
 use crate::inbox::{Handed, Taken};
 use crate::informed::Informed;
-use crate::member::{Kind, Member};
-use crate::peer::Peer;
-use crate::queue::enqueue;
+use crate::member::Member;
+use crate::queue::enqueue_all;
 use crate::socket::Socket;
-use crate::subscriber::Subscriber;
 use fp_connections::Role;
 use fp_news::News;
-use mio::{Interest, Token};
+use mio::{Interest, Registry, Token};
 use std::io;
 use std::net::TcpStream;
 use std::sync::Wait;
@@ -27,10 +25,13 @@ where
 {
     ghost use Rattle.fp_loop.specs.Courses.{KeepsOn, RunsOn, shown_by};
 
-    // Does what was handed in asks for.
-    pub(super) fn collect<R: Wait>(&mut self, rt: &R, now: u64)
+    // Does what was handed in asks for, where it is time to look.
+    pub(super) fn look_in<R: Wait>(&mut self, rt: &R, is_time: bool, now: u64)
         ensures { RunsOn S.answers S.informs self.old self.new }
     {
+        if !is_time {
+            return;
+        }
         let taken = self.inbox.take(rt);
         self.take_in(taken, now);
     }
@@ -65,7 +66,7 @@ where
             return;
         }
         self.returns = Some(now.saturating_add(LAST));
-        self.enqueue_all(None);
+        enqueue_all(&mut self.queue, &mut self.members, None);
     }
 
     // Begins the connections that were handed in.
@@ -73,7 +74,9 @@ where
         ensures { KeepsOn self.old self.new }
     {
         for (stream, role) in streams {
-            self.begin(stream, role, now);
+            if self.admit(stream, role, now).is_err() {
+                self.counts.left(role);
+            }
         }
     }
 
@@ -87,29 +90,7 @@ where
             return;
         }
         self.service.service.inform(told);
-        self.enqueue_all(Some(Role::Frames));
-    }
-
-    // Has each connection of this role, or of any, take its turn.
-    fn enqueue_all(&mut self, role: Option<Role>)
-        ensures { KeepsOn self.old self.new }
-    {
-        for key in 0..self.members.capacity() {
-            if let Some(member) = self.members.get_mut(key)
-                && role.is_none_or(|role| role == member.role())
-            {
-                enqueue(&mut self.queue, member, key);
-            }
-        }
-    }
-
-    // Begins a connection that was handed in.
-    fn begin(&mut self, stream: TcpStream, role: Role, now: u64)
-        ensures { KeepsOn self.old self.new }
-    {
-        if self.admit(stream, role, now).is_err() {
-            self.counts.left(role);
-        }
+        enqueue_all(&mut self.queue, &mut self.members, Some(Role::Frames));
     }
 
     fn admit(&mut self, stream: TcpStream, role: Role, now: u64) -> io::Result<()>
@@ -118,24 +99,18 @@ where
         // So there is room for a turn of each, and none is lost for want of memory.
         let room = self.members.len().saturating_add(1);
         self.queue.reserve(room)?;
-        let mut stream = mio::net::TcpStream::from_std(stream);
         let key = self.members.vacant_key();
-        let all = Interest::READABLE | Interest::WRITABLE | Interest::PRIORITY;
-        self.poll.registry().register(&mut stream, Token(key), all)?;
-        let socket = Socket::new(stream);
-        let alloc = self.beginning.alloc;
-        let kind = match role {
-            Role::Requests => {
-                let peer = Peer::new(&self.beginning, socket, now);
-                Kind::Requests(Box::new(alloc, peer)?)
-            }
-            Role::Frames => Kind::Frames(Box::new(alloc, Subscriber::new(socket, now))?),
-        };
-        let member = Member {
-            kind,
-            is_queued: false,
-        };
+        let socket = registered(self.poll.registry(), stream, key)?;
+        let member = Member::new(&self.beginning, role, socket, now)?;
         self.members.insert(member)?;
         Ok(())
     }
+}
+
+// The socket of a connection, of which the loop is told by this key what it is ready for.
+fn registered(registry: &Registry, stream: TcpStream, key: usize) -> io::Result<Socket> {
+    let mut stream = mio::net::TcpStream::from_std(stream);
+    let all = Interest::READABLE | Interest::WRITABLE | Interest::PRIORITY;
+    registry.register(&mut stream, Token(key), all)?;
+    Ok(Socket::new(stream))
 }

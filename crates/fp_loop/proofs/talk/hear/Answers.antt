@@ -17,8 +17,3 @@ pub returns-in-Err-clause-heard : goal.returns-in-Err-clause-heard
 returns-in-Err-clause-heard g c =
     let err = c.in-Err.ensures.err in
     hears_none g.S.Service.answers _ _ _ _ _ _ err.0 err.1
-
-pub returns-in-Err-2-clause-heard : goal.returns-in-Err-2-clause-heard
-returns-in-Err-2-clause-heard g c =
-    let err = c.in-Err-2.ensures.err in
-    hears_none g.S.Service.answers _ _ _ _ _ _ err.0 err.1

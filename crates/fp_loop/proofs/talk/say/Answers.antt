@@ -9,11 +9,6 @@ returns-in-Err-clause-said g c =
     let err = c.in-Err.ensures.err in
     says_none g.S.Service.answers _ _ _ _ _ _ (ap history err.0) err.1
 
-pub returns-in-Err-2-clause-said : goal.returns-in-Err-2-clause-said
-returns-in-Err-2-clause-said g c =
-    let err = c.in-Err-2.ensures.err in
-    says_none g.S.Service.answers _ _ _ _ _ _ (ap history err.0) err.1
-
 pub returns-then-paused-clause-said : goal.returns-then-paused-clause-said
 returns-then-paused-clause-said g c =
     let ok = c.in-Ok.ensures.ok in
