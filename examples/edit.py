@@ -8,4 +8,5 @@ with socket.create_connection((address, port)) as connection, connection.makefil
     for line in filter(bytes.strip, sys.stdin.buffer):  # A blank line gets no reply.
         service.write(line.rstrip(b"\n") + b"\n")
         service.flush()
-        print(service.readline().decode(), end="", flush=True)
+        reply = service.readline() or sys.exit("edit.py: no reply")
+        print(reply.decode(), end="", flush=True)

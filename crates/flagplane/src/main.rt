@@ -61,7 +61,9 @@ where
 fn main(rt: HostRuntime) -> ExitCode {
     // A call whose bounds name sockets is only checked where these are named.
     let _sockets: Option<(TcpListener, TcpStream)> = None;
-    let _held = hold_closed_streams(&rt);
+    let Some(_held) = hold_closed_streams(&rt) else {
+        return ExitCode::from(1);
+    };
     // Words that aren't text name no command, just as if there were no words.
     let given = words(&rt);
     let words: &[String] = match &given {

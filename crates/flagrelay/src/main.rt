@@ -78,7 +78,9 @@ where
 fn main(rt: HostRuntime) -> ExitCode {
     // A call whose bounds name sockets is only checked where these are named.
     let _sockets: Option<(TcpListener, TcpStream)> = None;
-    let _held = hold_closed_streams(&rt);
+    let Some(_held) = hold_closed_streams(&rt) else {
+        return ExitCode::from(FAULT);
+    };
     // Words that aren't text ask for nothing, just as if there were no words.
     let given = words(&rt);
     let mut texts = Vec::new(rt.alloc());

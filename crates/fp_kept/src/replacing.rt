@@ -3,6 +3,7 @@
 use std::alloc::{AllocError, Global};
 use std::fs::File;
 use std::io;
+use std::io::ErrorKind;
 use std::rt::Files;
 
 /// Where a file is made that is to take another's place: beside it, with `.new` behind its name.
@@ -52,12 +53,16 @@ pub struct Renamed {
 }
 
 impl Renamed {
-    /// Syncs the names in its folder, where that can be asked.
+    /// Syncs the names in its folder, where that can be asked: of a folder that can be opened to be
+    /// read, on a file system that syncs folders.
     pub fn synced_in<R: Files<File = File>>(self, rt: &R, folder: &str) -> io::Result<Replaced> {
-        if let Ok(folder) = File::open(rt, folder) {
-            folder.sync_all()?;
+        let Ok(folder) = File::open(rt, folder) else {
+            return Ok(Replaced { of: () });
+        };
+        match folder.sync_all() {
+            Err(fault) if fault.kind() != ErrorKind::InvalidInput => Err(fault),
+            _ => Ok(Replaced { of: () }),
         }
-        Ok(Replaced { of: () })
     }
 }
 

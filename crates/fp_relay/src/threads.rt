@@ -41,7 +41,7 @@ const LIMITS: Limits = Limits {
     idle: 75_000,
     request: 30_000,
     reply: 60_000,
-    leaving: 5_000,
+    leaving: 2_000,
 };
 
 /// What the threads of a relay share.

@@ -7,7 +7,7 @@ ghost use Rattle.fp_stream.specs.Watching.{BlamesStreams, Watches};
 ghost use Rattle.fp_stream.specs.declared.hello.Hello.TheVariants.{Nothing};
 ghost use Rattle.fp_server.specs.Attends.{BlamesWriter, ShowsFrames};
 
-use fp_connections::Host;
+use fp_connections::{Host, probe_peers};
 use fp_log::{Event, Reported, Source, tell_failure};
 use fp_stream::{Hello, WatchFault, watch_loop, write_hello};
 use fp_streams::FailureCounted;
@@ -16,7 +16,7 @@ use std::io::{Read, Write};
 use std::net::{SocketAddrV4, TcpStream};
 
 /// Says hello with nothing to the service at this address, and shows each snapshot that it sends on
-/// a line, until it ends the stream.
+/// a line, until it ends the stream. A service that vanishes is found by TCP keep-alive.
 pub fn watch<R, O>(
     rt: &R,
     address: SocketAddrV4,
@@ -40,6 +40,7 @@ where
             return Err(WatchFault::Device);
         }
     };
+    probe_peers(&stream);
     show_service(
         rt.alloc(),
         &mut FailureCounted::new(Reported::new(*rt, Source::Connection, &stream)),
