@@ -171,10 +171,12 @@ ran_by : (p : Step) (left g h k : ℕ) → p ≢ Begin → (p ≢ SyncOpen → h
     → (next_step p left ≢ Begin → h ≡ k) × (next_step p left ≡ Begin → h ≡ k + 1)
 ran_by p left g h k on stays turned same = grind arith
 
-pub ran_then : {D : Type 0} (faults : D → ℕ) (a b c : StoreState D) → RanOn a b → b.compaction.next ≢ Begin → Compacts faults b c → RanOn a c
+pub ran_then : {D : Type 0} (faults : D → ℕ) (a b c : StoreState D) → RanOn a b → b.compaction.next ≢ Begin →
+    Compacts faults b c → RanOn a c
 ran_then faults a b c ran on step =
     let begins = λ (at : a.compaction.next ≡ Begin). on (ap (λ (s : StoreState _). s.compaction.next) (ran.none at) ∙ at) in
-    let by = λ (runs : a.compaction.next ≢ Begin). ran_by b.compaction.next b.compaction.left b.compaction.generation c.compaction.generation
+    let by = λ (runs : a.compaction.next ≢ Begin).
+    ran_by b.compaction.next b.compaction.left b.compaction.generation c.compaction.generation
     a.compaction.generation on (λ not. (step.slots_stay not).1) (λ at. (step.slots_turn at).1) (ran.runs runs on) in record {
       none = λ at. absurd (begins at);
       runs = λ runs more. (by runs).0 (λ at. more (step.next ∙ at));

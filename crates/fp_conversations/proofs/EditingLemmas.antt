@@ -1,5 +1,6 @@
 -- The lines of an editor, and what they are answered.
-use Rattle.std.proofs.Common.{◌≡◌, ◌<◌, ◌≤◌, ◌+◌, ℕ, List, [], ◌∷◌, ◌++◌, length, Bool, true, false, nat_lt, All, Option, None, Some, Ok, Err, IfSome, IsSomeAnd}
+use Rattle.std.proofs.Common.{◌≡◌, ◌<◌, ◌≤◌, ◌+◌, ℕ, List, [], ◌∷◌, ◌++◌, length, Bool, true, false, nat_lt, All}
+use Rattle.std.proofs.Common.{Option, None, Some, Ok, Err, IfSome, IsSomeAnd}
 use Rattle.std.proofs.Common.{refl, sym, ap, subst, ◌∙◌, append_assoc, append-nil, inl, inr, slice_index_or, arith}
 use Rattle.std.specs.Prelude.{MatchBool}
 use mathlib.Core.List.{IsPrefix}
@@ -78,7 +79,8 @@ up_to-more (Some n) (Some f) (Some g) less within = omega (arith, begins_reaches
 pub within-more : (told more : Option FrontState) (a : Answer) → GoesOnFrom more told → IsWithin told a → IsWithin more a
 within-more told more a less within = up_to-more (revision_in a) told more less within
 
-all_within-more : (told more : Option FrontState) (bs : List Answer) → GoesOnFrom more told → All (IsWithin told) bs → All (IsWithin more) bs
+all_within-more : (told more : Option FrontState) (bs : List Answer) → GoesOnFrom more told → All (IsWithin told) bs →
+    All (IsWithin more) bs
 all_within-more told more bs less all = λ k d below. within-more told more (slice_index_or bs k d) less (all k d below)
 
 made-more : (r : Option ℕ) (c : Change) (told more : Option FrontState) → GoesOnFrom more told →

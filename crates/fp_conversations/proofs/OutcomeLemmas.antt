@@ -22,7 +22,8 @@ use Rattle.fp_session.specs.Reply as flags
 use Rattle.fp_session.specs.Reply.{fault_of, fault_in, bad_flag_or_memory, bad_flag_in_or_memory, refusal_of, reply_of_code}
 use Rattle.fp_session.specs.declared.reply.Reply as code
 use Rattle.fp_conversations.specs.Answers.{Answer, reply, IsWithin, answer_to_refusal, revision_in}
-use Rattle.fp_conversations.specs.Outcomes.{ComesTo, IsAnswerTo, IsHandedIn, IsMadeBy, IsOutcomeOf, IsToldBy, IsToldOf, answer_to_line, answer_to_outcome}
+use Rattle.fp_conversations.specs.Outcomes.{ComesTo, IsAnswerTo, IsHandedIn, IsMadeBy, IsOutcomeOf, IsToldBy, IsToldOf}
+use Rattle.fp_conversations.specs.Outcomes.{answer_to_line, answer_to_outcome}
 use Rattle.fp_conversations.specs.Outcomes.{said_by, said_of, told_by, told_of}
 use Rattle.fp_conversations.specs.declared.answer.Answered.{Answered}
 use Rattle.fp_conversations.specs.declared.answer.Answered.TheVariants as came

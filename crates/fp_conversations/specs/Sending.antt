@@ -6,9 +6,8 @@ use Rattle.fp_documents.specs.Document.{document}
 use Rattle.fp_group_commit.specs.Tokens.{FrontState, front_revision, front_set}
 use Rattle.fp_publish.specs.Fronts.{Begins}
 use Rattle.fp_stream.specs.Frames.{AreNews, Snapshot, has_after, stream_of}
-use Rattle.fp_stream.specs.Heads.{IsNewer}
+use Rattle.fp_stream.specs.Heads.{IsNewer, longest_body}
 use Rattle.fp_stream.specs.Hellos.{Hears, hello_bytes}
-use Rattle.fp_stream.specs.declared.head.TheConstants.{MOST_BODY}
 use Rattle.fp_stream.specs.declared.hello.Hello.{Hello}
 use Rattle.fp_conversations.specs.declared.subscriber.Served.{Served}
 use Rattle.fp_conversations.specs.declared.subscriber.Served.TheVariants.{Over, Long}
@@ -35,7 +34,7 @@ pub record IsTooLong (shown : Option FrontState) (has : Hello) : Type 0 where
   pub front : FrontState
   pub begins : IsSomeAnd shown (Begins front)
   pub news : IsNewer has (front_revision front)
-  pub long : MOST_BODY < length (document (front_set front).flags)
+  pub long : longest_body < length (document (front_set front).flags)
 
 -- why the frames of a seat ended where the writer didn't fail: the subscriber gets nothing more, or
 -- what is news to it is too long

@@ -118,6 +118,7 @@ impl<D: Disk> Store<D> {
         // Any fault but `Device`: the disk's length was asked for, and nothing else.
         ensures untouched { IfErr result (λ e. (e.0 ≡ Device)
             ⊎ (D.calls e.1 ≡ D.calls disk ++ Length ∷ [])) }
+        // However it ends, the disk keeps its word as it did.
         ensures honest { MatchResult result (λ r. SameHonesty D.Disk disk r.0.disk)
             (λ e. SameHonesty D.Disk disk e.1) }
     {
@@ -188,6 +189,7 @@ impl<D: Disk> Store<D> {
             (λ r. LeavesOnly D.moment D.crash_states_since disk r.0.disk
             (IsOutcome (D.unsynced disk)))
             (λ e. LeavesOnly D.moment D.crash_states_since disk e.1 (IsOutcome (D.unsynced disk))) }
+        // However it ends, the disk keeps its word as it did.
         ensures honest { MatchResult result (λ r. SameHonesty D.Disk disk r.0.disk)
             (λ e. SameHonesty D.Disk disk e.1) }
     {

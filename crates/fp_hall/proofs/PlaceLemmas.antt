@@ -26,7 +26,8 @@ pub stands-told : (store : Identity) (d : DeskState) (all : List Change) (told :
     StandsAt (record { store = store; edits = all }) n c → StandsAt told n c
 stands-told store d all told n c ours is same settled reached at =
     let start = ap (λ (s : Identity). s.start.revision) ours in
-    let part = first_part at.before d.settled (d.drawn ++ d.waiting) at.after c (sym is ∙ at.there) (omega (arith, reached, at.place, start)) in
+    let part = first_part at.before d.settled (d.drawn ++ d.waiting) at.after c (sym is ∙ at.there)
+    (omega (arith, reached, at.place, start)) in
     record {
       before = at.before;
       after = part.0;

@@ -18,7 +18,8 @@ flags_of-requires-clause-flags c =
     let ordered = subst IsOrdered (ap tree_view c.in-Object.is ∙ view-Object v) c.requires in
     let seen = ap tree_view found.field-0-is ∙ view-Object found.flags in
     subst (λ w. IsOrdered (object (tree_members w.now))) (sym found.flags-is)
-    (subst IsOrdered seen (ordered_get (codes "flags") (object (tree_members v.now)) (tree_view found.field-0.now) ordered (sym found.ensures)))
+    (subst IsOrdered seen
+    (ordered_get (codes "flags") (object (tree_members v.now)) (tree_view found.field-0.now) ordered (sym found.ensures)))
 
 pub flags_of-requires-in-Some-Object-member_in_order-clause-evaluators :
     goal.flags_of-requires-in-Some-Object-member_in_order-clause-evaluators
@@ -39,7 +40,8 @@ flags_of-requires-in-Some-Object-member_in_order-clause-flags c =
     let ordered = subst IsOrdered (ap tree_view c.in-Object.is ∙ view-Object v) c.requires in
     let seen = ap tree_view found.field-0-is ∙ view-Object found.flags in
     subst (λ w. IsOrdered (object (tree_members w.now))) (sym found.flags-is)
-    (subst IsOrdered seen (ordered_get (codes "flags") (object (tree_members v.now)) (tree_view found.field-0.now) ordered (sym found.ensures)))
+    (subst IsOrdered seen
+    (ordered_get (codes "flags") (object (tree_members v.now)) (tree_view found.field-0.now) ordered (sym found.ensures)))
 
 pub returns-in-None-clause-flags : goal.returns-in-None-clause-flags
 returns-in-None-clause-flags c =
