@@ -16,7 +16,7 @@ use fp_slots::{Slots, Step};
 use std::alloc::{AllocError, Global};
 
 /// Why a step wasn't taken.
-#[derive(Clone, Copy, Debug, PartialEq, Eq)]
+#[derive(Clone, Copy, Debug)]
 pub enum StepFault {
     /// The device refused.
     Device,

@@ -11,7 +11,7 @@ mod sparing;
 mod standard;
 mod taking;
 
-pub use counts::{Counted, Counts, Role, Tally};
+pub use counts::{Counted, Counts, Role};
 pub use host::Host;
 pub use listener::{Closed, Listener};
 pub use probing::probe_peers;

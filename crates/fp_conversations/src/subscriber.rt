@@ -20,7 +20,7 @@ use std::sync::Wait;
 use std::time::Clock;
 
 /// Why a subscriber was sent nothing more, though it may be there still.
-#[derive(Debug, Drop, Clone, Copy, PartialEq, Eq)]
+#[derive(Debug, Drop, Clone, Copy)]
 pub enum SubscriberFault {
     /// It said no hello.
     Hello(HelloFault),

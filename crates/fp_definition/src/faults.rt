@@ -6,7 +6,7 @@ use std::alloc::{AllocError, AllocFailed};
 use std::fmt;
 
 /// Why there is no key.
-#[derive(Debug, Drop, Clone, Copy, PartialEq, Eq)]
+#[derive(Debug, Drop, Clone, Copy)]
 pub enum KeyFault {
     /// The text is empty, or longer than a key may be.
     BadKey,

@@ -34,7 +34,7 @@ use serde_json::Value;
 use std::alloc::{AllocError, Global};
 
 /// Why a variant was taken.
-#[derive(Debug, Clone, Copy, PartialEq, Eq)]
+#[derive(Debug, Clone, Copy)]
 pub enum Reason {
     /// The definition has no rule.
     Static,
@@ -45,7 +45,7 @@ pub enum Reason {
 }
 
 /// Why a definition resolves to no variant.
-#[derive(Debug, Clone, Copy, PartialEq, Eq)]
+#[derive(Debug, Clone, Copy)]
 pub enum EvalFault {
     /// The flag is disabled.
     Disabled,

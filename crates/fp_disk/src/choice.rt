@@ -4,7 +4,7 @@ ghost use Rattle.std.specs.Prelude.{◌≡◌};
 ghost use Rattle.fp_disk.specs.Crash.{byte_of_seed, byte_of_fill};
 
 /// What becomes of a byte that a crash leaves open.
-#[derive(Clone, Copy, Debug, PartialEq, Eq)]
+#[derive(Clone, Copy, Debug)]
 pub enum Fill {
     /// What it was before the write.
     Old,

@@ -9,7 +9,7 @@ ghost use Rattle.fp_disk.specs.Outcomes.{all_synced, with_write, Elapses, Counts
 use crate::history::CallKind;
 
 /// Why a disk's call failed.
-#[derive(Clone, Copy, Debug, PartialEq, Eq)]
+#[derive(Clone, Copy, Debug)]
 pub enum DiskFault {
     /// The device refused, or is full.
     Device,

@@ -7,7 +7,7 @@ use crate::call::Progress;
 
 /// Which calls of a disk in memory fail though nothing is wrong with them. Calls are counted from
 /// 0, from now on, and each call of the trait counts, `len` and `read_at` too.
-#[derive(Clone, Copy, Debug, PartialEq, Eq)]
+#[derive(Clone, Copy, Debug)]
 pub enum Failing {
     /// None.
     Never,
@@ -18,7 +18,7 @@ pub enum Failing {
 }
 
 /// What a write does that fails as it was told to.
-#[derive(Clone, Copy, Debug, PartialEq, Eq)]
+#[derive(Clone, Copy, Debug)]
 pub enum FailedWrite {
     /// Nothing.
     Nothing,

@@ -7,7 +7,7 @@ use fp_fronts::{Count, Growing, Lists};
 use std::marker::Model;
 
 /// What a call of a disk asks for.
-#[derive(Clone, Copy, Debug, PartialEq, Eq)]
+#[derive(Clone, Copy, Debug)]
 pub enum CallKind {
     /// How many bytes there are.
     Length,

@@ -178,8 +178,8 @@ fn put_and_record(
         ((bytes.new.items ≡ bytes.old.items) × (calls.new.items ≡ calls.old.items)) }
 {
     let end = at.checked_add(from.len() as u64).ok_or(AllocError)?;
-    let copy = Bytes::copy_of(alloc, from)?;
     calls.reserve(1)?;
+    let copy = Bytes::copy_of(alloc, from)?;
     put(bytes, at as usize, from, progress)?;
     calls.push_reserved(Call {
         request: Request::Write { at, bytes: copy },

@@ -32,7 +32,7 @@ pub const DELETE_FRAME: usize = 3;
 pub const SET_FRAME: usize = 3;
 
 /// Why changes can't be made together, in the order of the tests.
-#[derive(Debug, Clone, Copy, PartialEq, Eq, Error)]
+#[derive(Debug, Clone, Copy, Error)]
 pub enum SetFault {
     /// There is none, or there are too many.
     #[error("a set has 1 to {MOST_CHANGES} changes")]

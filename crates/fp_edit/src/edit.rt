@@ -58,7 +58,7 @@ pub enum Edit {
 }
 
 /// Why an edit isn't made, in the order of the tests.
-#[derive(Debug, Clone, Copy, PartialEq, Eq, Error)]
+#[derive(Debug, Clone, Copy, Error)]
 pub enum EditFault {
     /// The key isn't as expected: `current` is the revision that changed its flag last, `None`
     /// where there is no flag.

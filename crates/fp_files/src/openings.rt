@@ -7,7 +7,7 @@ use fp_fronts::{Count, Growing, Lists};
 use std::marker::Model;
 
 /// What a file is opened for.
-#[derive(Clone, Copy, Debug, PartialEq, Eq)]
+#[derive(Clone, Copy, Debug)]
 pub enum Purpose {
     /// To be read and written, with its lock, and made where there is none.
     Making,

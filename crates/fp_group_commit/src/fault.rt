@@ -3,7 +3,7 @@
 use fp_layout::CreateFault as LayoutFault;
 
 /// Why a disk wasn't made, in the order of the tests.
-#[derive(Clone, Copy, Debug, PartialEq, Eq)]
+#[derive(Clone, Copy, Debug)]
 pub enum CreateFault {
     /// There are bytes already.
     NotEmpty,
@@ -16,7 +16,7 @@ pub enum CreateFault {
 }
 
 /// Why a call of a store wasn't done.
-#[derive(Clone, Copy, Debug, PartialEq, Eq)]
+#[derive(Clone, Copy, Debug)]
 pub enum StoreFault {
     /// The device refused. From then on the store has failed, and its disk is to be opened again.
     Device,

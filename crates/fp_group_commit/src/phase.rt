@@ -1,7 +1,7 @@
 //! How far a batch is on its way.
 
 /// How far a batch is on its way, so which call comes next.
-#[derive(Clone, Copy, Debug, PartialEq, Eq)]
+#[derive(Clone, Copy, Debug)]
 pub enum Phase {
     /// None is.
     Idle,

@@ -41,7 +41,7 @@ use std::sync::Wait;
 pub use tokens::{AllSettled, Closer, GivenUp, Gone, Refusal, Staying};
 
 /// Somebody has each evaluator.
-#[derive(Debug, Drop, Clone, Copy, PartialEq, Eq)]
+#[derive(Debug, Drop, Clone, Copy)]
 pub struct EvaluatorsUsed;
 
 /// The desk and the board of one store, and what is lent of them: what the lock of a plane keeps.

@@ -4,7 +4,7 @@ use std::error::Error;
 use std::fmt;
 
 /// Why a connection is closed without a reply.
-#[derive(Debug, Drop, Clone, Copy, PartialEq, Eq)]
+#[derive(Debug, Drop, Clone, Copy)]
 pub enum NoReply {
     /// The body broke off.
     BodyBroke,

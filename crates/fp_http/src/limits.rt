@@ -37,7 +37,7 @@ impl TimeLimits {
 }
 
 /// What ended a connection that its peer didn't end.
-#[derive(Debug, Drop, Clone, Copy, PartialEq, Eq)]
+#[derive(Debug, Drop, Clone, Copy)]
 pub enum Stop {
     /// It said nothing between two requests, for too long.
     Idle,

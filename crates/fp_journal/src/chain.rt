@@ -23,7 +23,7 @@ use fp_gate::OPEN;
 use std::alloc::{AllocError, Global};
 
 /// Why a body wasn't taken.
-#[derive(Debug, Drop, PartialEq)]
+#[derive(Debug, Drop)]
 pub enum BodyFault {
     /// It is none to take now, and this byte of it, counted from its first,
     /// is the first to show it.
@@ -33,7 +33,7 @@ pub enum BodyFault {
 }
 
 /// Why bytes are no chain.
-#[derive(Debug, Drop, PartialEq)]
+#[derive(Debug, Drop)]
 pub enum ChainFault {
     /// This byte is the first to show it.
     Damaged { at: u64 },

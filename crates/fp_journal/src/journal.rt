@@ -30,7 +30,7 @@ use std::mem;
 mod outside;
 
 /// How far a body is on its way.
-#[derive(Clone, Copy, Debug, PartialEq, Eq)]
+#[derive(Clone, Copy, Debug)]
 pub enum Phase {
     /// None is.
     Idle,

@@ -15,7 +15,7 @@ use std::alloc::{AllocError, Global};
 pub const PIECE: usize = 65_536;
 
 /// Why a disk's bytes weren't read.
-#[derive(Clone, Copy, Debug, PartialEq, Eq)]
+#[derive(Clone, Copy, Debug)]
 pub enum BytesFault {
     /// The device refused.
     Device,

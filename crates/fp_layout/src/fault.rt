@@ -9,7 +9,7 @@ use fp_journal::{BytesFault, ChainFault};
 use fp_slots::SlotFault;
 
 /// Why a disk can't be opened.
-#[derive(Clone, Copy, Debug, PartialEq, Eq)]
+#[derive(Clone, Copy, Debug)]
 pub enum OpenFault {
     /// It doesn't begin as a disk of this layout.
     Unformatted,

@@ -33,7 +33,7 @@ const EMPTY_IMAGE: usize = 4;
 pub const FIRST_GATE: usize = HEADER + IMAGE_PLACE + EMPTY_IMAGE;
 
 /// Why a disk wasn't made.
-#[derive(Clone, Copy, Debug, PartialEq, Eq)]
+#[derive(Clone, Copy, Debug)]
 pub enum CreateFault {
     /// There are bytes already.
     NotEmpty,

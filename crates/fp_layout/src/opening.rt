@@ -259,7 +259,7 @@ fn sync_front<D: Disk, R: SlotReader>(
 }
 
 /// Where a disk goes on: the slot that rules, and the closed gate behind what stands in it.
-#[derive(Clone, Copy, Debug)]
+#[derive(Clone, Copy)]
 pub struct Place {
     /// The slot that rules.
     pub slot: Slot,

@@ -8,7 +8,7 @@ use std::net::{SocketAddr, SocketAddrV4};
 use std::{fmt, io};
 
 /// What the connections of a listener are for.
-#[derive(Debug, Drop, Clone, Copy, PartialEq, Eq)]
+#[derive(Debug, Drop, Clone, Copy)]
 pub enum Port {
     /// Evaluations by OFREP.
     Ofrep,
@@ -32,7 +32,7 @@ impl Port {
 }
 
 /// What is read or written.
-#[derive(Debug, Drop, Clone, Copy, PartialEq, Eq)]
+#[derive(Debug, Drop, Clone, Copy)]
 pub enum Source {
     /// The file of a store.
     File,
@@ -59,7 +59,7 @@ impl Source {
 }
 
 /// Why a connection was ended.
-#[derive(Debug, Drop, Clone, Copy, PartialEq, Eq)]
+#[derive(Debug, Drop, Clone, Copy)]
 pub enum Cause {
     /// It said nothing between two requests, for too long.
     Idle,
@@ -96,7 +96,7 @@ impl Cause {
 
 /// Something that happened to the service or to a command. What it carries is all that is told of
 /// it: none has a flag's definition, an edit or a context.
-#[derive(Debug, Drop, Clone, Copy)]
+#[derive(Drop, Clone, Copy)]
 pub enum Event<'e> {
     /// A store was opened, at this revision and with so many flags.
     Opened {

@@ -69,7 +69,7 @@ fn now<R: Clock>(rt: &R) -> DateTime {
 }
 
 // A moment as RFC 3339 has it, to the second.
-#[derive(Clone, Copy, Debug)]
+#[derive(Clone, Copy)]
 struct Moment(DateTime);
 
 impl Display for Moment {

@@ -4,29 +4,26 @@ ghost use Rattle.std.specs.Prelude.{◌≡◌};
 
 use crate::informed::Informed;
 use bytes::Bytes;
-use fp_connections::Tally;
 use http::Request;
 use http_server::{Response, Service};
 use std::alloc::AllocError;
 
-/// A service, and what it answered since the tally was taken.
+/// A service, and how often it was called.
 #[derive(Drop)]
 pub(crate) struct Counting<S: Drop> {
     pub(crate) service: S,
-    pub(crate) tally: Tally,
     // How many calls it answered, counted round.
     pub(crate) calls: u64,
 }
 
 impl<S: Drop> Counting<S> {
-    /// Counts a request that was refused with this status.
+    /// Tells the service of a request that was refused with this status.
     pub(crate) fn count_refusal<N>(&mut self, refusal: Option<u16>)
     where
         S: Informed<N>,
         ensures { self.new.service ≡ self.old.service }
     {
         if let Some(status) = refusal {
-            self.tally.answered(status);
             self.service.refused(status);
         }
     }
@@ -43,7 +40,6 @@ impl<S: Service + Drop> Service for Counting<S> {
     ) -> Result<(), AllocError> {
         self.service.call(request, response)?;
         self.calls = self.calls.wrapping_add(1);
-        self.tally.answered(response.status.as_u16());
         Ok(())
     }
 }

@@ -12,7 +12,7 @@ use crate::subscriber::Subscriber;
 use crate::talk::Beginning;
 use crate::times::Limits;
 use crate::turn::Turn;
-use fp_connections::{Role, Tally};
+use fp_connections::Role;
 use fp_news::{Newest, News};
 use http_server::Service;
 use std::alloc::{AllocError, Global};
@@ -79,19 +79,19 @@ impl<N: News + Drop> Member<N> {
         ensures waits { IsFalse ends → result ≡ Waits → CanDoNothing self.new.kind shown.now }
     {
         if ends {
-            return self.finish(&mut service.tally, now);
+            return self.finish(now);
         }
         match &mut self.kind {
             Kind::Requests(peer) => peer.turn(service, now),
-            Kind::Frames(subscriber) => subscriber.turn(shown, &mut service.tally, now),
+            Kind::Frames(subscriber) => subscriber.turn(shown, now),
         }
     }
 
     // Takes its turn where its loop ends.
-    fn finish(&mut self, tally: &mut Tally, now: u64) -> Turn {
+    fn finish(&mut self, now: u64) -> Turn {
         match &mut self.kind {
             Kind::Requests(peer) => peer.finish(now),
-            Kind::Frames(subscriber) => subscriber.finish(tally, now),
+            Kind::Frames(subscriber) => subscriber.finish(now),
         }
     }
 

@@ -9,7 +9,6 @@ use crate::heard::{Heard, hello_of};
 use crate::socket::{Socket, is_passing, turn_after};
 use crate::times::{Limits, Waiting, is_over_time};
 use crate::turn::{ROUNDS, Turn};
-use fp_connections::Tally;
 use fp_news::{Newest, News, Outgoing};
 use std::io::Read;
 use std::sync::Arc;
@@ -38,13 +37,13 @@ impl<N: News + Drop> Subscriber<N> {
 
     /// Listens, and sends the newest, until it would wait or its turn is over. Where these news can
     /// have no further owner it ends, so that it asks for them anew.
-    pub(crate) fn turn(&mut self, shown: &Newest<N>, tally: &mut Tally, now: u64) -> Turn
+    pub(crate) fn turn(&mut self, shown: &Newest<N>, now: u64) -> Turn
         ensures tells { TellsOn self.old.outgoing self.new.outgoing }
         ensures waits { result ≡ Waits → CanDoNothing self.new shown.now }
     {
         let heard = self.listen(now);
         // Who says nothing more is sent what its socket takes at once.
-        let told = self.tell(shown, tally, now);
+        let told = self.tell(shown, now);
         if heard == Turn::Over || told == Turn::Waits {
             return heard;
         }
@@ -52,10 +51,10 @@ impl<N: News + Drop> Subscriber<N> {
     }
 
     /// Sends what is left of the frame that is being sent, until it would wait or its turn is over.
-    pub(crate) fn finish(&mut self, tally: &mut Tally, now: u64) -> Turn
+    pub(crate) fn finish(&mut self, now: u64) -> Turn
         ensures { TellsOn self.old.outgoing self.new.outgoing }
     {
-        match self.tell(&Newest::new(), tally, now) {
+        match self.tell(&Newest::new(), now) {
             Turn::Waits if self.waiting != Waiting::Taker => Turn::Over,
             turn => turn,
         }
@@ -110,7 +109,7 @@ impl<N: News + Drop> Subscriber<N> {
     }
 
     // Sends the newest, for as long as its socket takes it.
-    fn tell(&mut self, shown: &Newest<N>, tally: &mut Tally, now: u64) -> Turn
+    fn tell(&mut self, shown: &Newest<N>, now: u64) -> Turn
         ensures tells { TellsOn self.old.outgoing self.new.outgoing }
         ensures waits { result ≡ Waits → IsTrue self.new.socket.may_write
             → HasAll self.new.outgoing shown.now }
@@ -124,7 +123,7 @@ impl<N: News + Drop> Subscriber<N> {
             if begun != Turn::Goes {
                 return begun;
             }
-            if self.send(tally, now) == Turn::Over {
+            if self.send(now) == Turn::Over {
                 return Turn::Over;
             }
         }
@@ -151,7 +150,7 @@ impl<N: News + Drop> Subscriber<N> {
     }
 
     // Sends once of the frame that is being sent.
-    fn send(&mut self, tally: &mut Tally, now: u64) -> Turn
+    fn send(&mut self, now: u64) -> Turn
         ensures tells { TellsOn self.old.outgoing self.new.outgoing }
         ensures since { result ≡ Goes → self.new.since ≡ now }
         ensures reads { self.new.socket.may_read ≡ self.old.socket.may_read }
@@ -159,7 +158,7 @@ impl<N: News + Drop> Subscriber<N> {
         let Some(outgoing) = &mut self.outgoing else {
             return Turn::Waits;
         };
-        let turn = sent_once(outgoing, &mut self.socket, tally);
+        let turn = sent_once(outgoing, &mut self.socket);
         if turn == Turn::Goes {
             let waiting = if outgoing.is_sending() {
                 Waiting::Taker
@@ -207,11 +206,7 @@ fn offered<N: News + Drop>(outgoing: &mut Outgoing<N>, shown: &Newest<N>) -> Tur
 }
 
 // Sends once of the frame that is being sent.
-fn sent_once<N: News + Drop>(
-    outgoing: &mut Outgoing<N>,
-    socket: &mut Socket,
-    tally: &mut Tally,
-) -> Turn
+fn sent_once<N: News + Drop>(outgoing: &mut Outgoing<N>, socket: &mut Socket) -> Turn
     ensures tells { GoesOnTelling outgoing.old outgoing.new }
     ensures reads { socket.new.may_read ≡ socket.old.may_read }
 {
@@ -220,7 +215,6 @@ fn sent_once<N: News + Drop>(
         Ok(0) => Turn::Over,
         Ok(count) => {
             outgoing.sent(count);
-            tally.frame_bytes = tally.frame_bytes.saturating_add(count as u64);
             Turn::Goes
         }
         Err(fault) => turn_after(fault),

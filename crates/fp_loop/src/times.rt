@@ -4,7 +4,7 @@ ghost use Rattle.std.specs.Prelude.{◌≡◌, ◌+◌, ◌↔◌, IsTrue};
 ghost use Rattle.fp_loop.specs.Times.{limit_of, IsOver};
 
 /// How long a connection may keep a loop waiting. All are milliseconds.
-#[derive(Debug, Drop, Clone, Copy, PartialEq, Eq)]
+#[derive(Drop, Clone, Copy)]
 pub struct Limits {
     /// Until a request begins, from its opening or its last reply on.
     pub idle: u64,

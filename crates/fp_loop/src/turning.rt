@@ -17,7 +17,7 @@ use crate::queue::{WAKE, keep_if, mark, remove};
 use crate::talk::Beginning;
 use crate::times::Limits;
 use crate::turn::Turn;
-use fp_connections::{Counts, Tally};
+use fp_connections::Counts;
 use fp_news::{Newest, News};
 use mio::{Events, Poll, Token, Waker};
 use slab::Slab;
@@ -111,11 +111,7 @@ where
             inbox,
             members: Slab::new(alloc),
             queue: Vec::new(alloc),
-            service: Counting {
-                service,
-                tally: Tally::new(),
-                calls: 0,
-            },
+            service: Counting { service, calls: 0 },
             shown: Newest::new(),
             beginning,
             limits,
@@ -156,7 +152,6 @@ where
         let is_due = now.saturating_sub(self.swept) >= SWEEP;
         self.look_in(rt, is_woken || is_due, now);
         self.sweep(is_due, now);
-        self.tell();
         !self.end_if_over(now)
     }
 
@@ -184,7 +179,6 @@ where
         for key in 0..self.members.capacity() {
             remove(&mut self.members, &self.counts, key);
         }
-        self.tell();
         true
     }
 
@@ -280,14 +274,6 @@ where
             return true;
         };
         member.look_after(&self.beginning, &mut self.service, &self.limits, now)
-    }
-
-    // Adds what happened to what is counted.
-    fn tell(&mut self)
-        ensures { KeepsOn self.old self.new }
-    {
-        let tally = mem::replace(&mut self.service.tally, Tally::new());
-        self.counts.add(&tally);
     }
 }
 

@@ -7,7 +7,6 @@ ghost use Rattle.fp_news.specs.Newest.{had, Rises};
 
 use crate::news::News;
 use std::alloc::Global;
-use std::mem;
 use std::sync::Arc;
 
 /// The newest news that came.
@@ -55,15 +54,5 @@ impl<N: News + Drop> Newest<N> {
             None => true,
             Some(news) => news.revision() < revision,
         }
-    }
-
-    /// Gives away what it has.
-    pub fn give(&mut self) -> Option<Arc<N, Global>>
-        // What it had, if it had any.
-        ensures given { result ≡ self.old.news }
-        // It has none any more.
-        ensures none { self.new.news ≡ None }
-    {
-        mem::replace(&mut self.news, None)
     }
 }

@@ -25,6 +25,6 @@ pub use order::{
 };
 pub use path::{at_text, named, step, variable};
 pub use share::place_below;
-pub use text::{append_text, concatenate, ends_with, is_in, starts_with};
+pub use text::{append_text, ends_with, is_in, starts_with};
 pub use truth::{is_falsy, is_truthy};
 pub use version::sem_ver;

@@ -1,15 +1,14 @@
 //! Texts within texts, items of lists, and texts joined.
 
 ghost use Rattle.std.specs.Prelude.{◌≡◌, ◌++◌, eqb, Some, None, false, if◌then◌else◌, IfOk, OnErr};
-ghost use Rattle.std.specs.Prelude.{option_map, string_bytes, map};
+ghost use Rattle.std.specs.Prelude.{option_map, string_bytes};
 ghost use Rattle.std.specs.List.{starts_with as begins, ends_with as finishes};
 ghost use Rattle.fp_operators.specs.View.{view, items_view};
 ghost use Rattle.fp_operators.specs.Text.{occurs, is_among, is_part, has_prefix, has_suffix};
-ghost use Rattle.fp_operators.specs.Text.{scalar_text, text_of_scalars, concatenation};
+ghost use Rattle.fp_operators.specs.Text.{scalar_text};
 
 use crate::datum::Datum;
 use crate::equality::strictly_equal;
-use crate::kept_text::Text;
 use itoa::Buffer;
 use std::alloc::{AllocError, Global};
 
@@ -71,28 +70,6 @@ fn text_finishes(text: &str, suffix: &str) -> bool
     ensures { result ≡ finishes eqb text.now suffix.now }
 {
     text.ends_with(suffix)
-}
-
-/// `cat`: the texts of the arguments joined, or null where a list or an object is among them.
-pub fn concatenate(alloc: Global, parts: &[Datum]) -> Result<Datum, AllocError>
-    ensures { IfOk result (λ d. view d ≡ concatenation (map view parts.now)) }
-{
-    match joined_text(alloc, parts)? {
-        Some(text) => Ok(Datum::Text(Text::from(text))),
-        None => Ok(Datum::Null),
-    }
-}
-
-fn joined_text(alloc: Global, parts: &[Datum]) -> Result<Option<String>, AllocError>
-    ensures { IfOk result (λ t. option_map string_bytes t ≡ text_of_scalars (map view parts.now)) }
-{
-    let mut out = String::new(alloc);
-    for datum in parts {
-        if !append_text(&mut out, datum)? {
-            return Ok(None);
-        }
-    }
-    Ok(Some(out))
 }
 
 /// One step of `cat`: puts a datum's text behind what is written, and tells whether it has one.

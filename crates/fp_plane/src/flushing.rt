@@ -36,13 +36,13 @@ use std::time::Clock;
 /// That sealing broke off, and the hall and all who wait were told: the device failed, or there is no
 /// room for what was drawn and no generation to make it. `Plane::break_off` makes one, and nothing else
 /// does.
-#[derive(Debug, Drop, Clone, Copy, PartialEq, Eq)]
+#[derive(Debug, Drop, Clone, Copy)]
 pub struct Broken {
     of: (),
 }
 
 /// That sealing failed, for one of these two reasons, and the hall isn't told yet.
-#[derive(Debug, Drop, Clone, Copy, PartialEq, Eq)]
+#[derive(Debug, Drop, Clone, Copy)]
 pub(crate) struct UntoldFailure;
 
 /// What a flusher gives back: the store's half, and that all that was taken is settled, or that

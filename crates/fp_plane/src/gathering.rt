@@ -44,7 +44,7 @@ const PARTS_OF_WAIT: u32 = 4;
 const MOST_SKIPPED: u32 = 64;
 
 /// For how many edits a flusher waits before it draws, and for how long.
-#[derive(Debug, Drop, Clone, Copy, PartialEq, Eq)]
+#[derive(Drop, Clone, Copy)]
 pub struct Gathering {
     wanted: usize,
     // Whether who was told last was alone.
@@ -56,7 +56,7 @@ pub struct Gathering {
 }
 
 /// A batch that is sealed: behind which revision, and since when.
-#[derive(Debug, Drop, Clone, Copy, PartialEq, Eq)]
+#[derive(Drop, Clone, Copy)]
 pub struct Sealing {
     behind: u64,
     begun: Option<Instant>,

@@ -11,7 +11,7 @@ use fp_slots::Step;
 use log::Log;
 
 /// What is seen of a store's compactions.
-#[derive(Debug, Drop, Clone, Copy, PartialEq, Eq)]
+#[derive(Drop, Clone, Copy)]
 pub struct Seen {
     /// The generation of the slot that rules.
     pub generation: u64,

@@ -15,7 +15,7 @@ use std::marker::Model;
 use std::mem;
 
 /// The board is gone. No clause keeps a body from answering this at any time.
-#[derive(Clone, Copy, Debug, PartialEq, Eq)]
+#[derive(Clone, Copy, Debug)]
 pub struct Closed;
 
 // The reader outside, or inside with what it reads.

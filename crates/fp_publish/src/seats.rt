@@ -119,7 +119,7 @@ pub struct Seat {
 }
 
 /// All seats are taken.
-#[derive(Debug, Drop, Clone, Copy, PartialEq, Eq)]
+#[derive(Debug, Drop, Clone, Copy)]
 pub struct SeatsUsed;
 
 /// The seats of a board's subscribers, and what was handed last.

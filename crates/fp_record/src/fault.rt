@@ -7,7 +7,7 @@ use std::alloc::{AllocError, AllocFailed};
 use thiserror::Error;
 
 /// Why bytes weren't decoded.
-#[derive(Debug, Drop, Clone, Copy, PartialEq, Eq, Error)]
+#[derive(Debug, Drop, Clone, Copy, Error)]
 pub enum RecordFault {
     /// The bytes spell no value. `at` is where the first field that can't stand begins, counted
     /// from the first byte; of bytes that are left over it is the first.

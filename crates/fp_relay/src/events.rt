@@ -6,7 +6,7 @@ use std::net::{SocketAddr, SocketAddrV4};
 use std::{fmt, io};
 
 /// Something that happened to a relay. What it carries is all that is told of it.
-#[derive(Debug, Drop, Clone, Copy)]
+#[derive(Drop, Clone, Copy)]
 pub enum Event<'e> {
     /// A listener was bound.
     Bound {

@@ -14,7 +14,7 @@ use std::io::{ErrorKind, Read, Write};
 use std::{fmt, io};
 
 /// Why a relay gave up.
-#[derive(Debug, Drop, Clone, Copy, PartialEq, Eq)]
+#[derive(Debug, Drop, Clone, Copy)]
 pub enum RelayFault {
     /// An address couldn't be bound, a thread not begun, or a stream failed.
     Device,

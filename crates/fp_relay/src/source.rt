@@ -43,7 +43,7 @@ pub trait Audience {
 }
 
 /// Why nothing more is taken from a connection.
-#[derive(Debug, Drop, Clone, Copy, PartialEq, Eq)]
+#[derive(Debug, Drop, Clone, Copy)]
 pub enum SourceEnd {
     /// The source ended it.
     Closed,

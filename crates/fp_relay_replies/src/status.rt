@@ -16,7 +16,7 @@ use http_server::Response;
 use std::alloc::{AllocError, Global};
 
 /// How many requests were answered with each status.
-#[derive(Debug, Drop, Clone, Copy, PartialEq, Eq)]
+#[derive(Drop, Clone, Copy)]
 pub struct Answered {
     /// With 200.
     pub ok: u64,
@@ -43,7 +43,7 @@ pub struct Answered {
 }
 
 /// The numbers of a relay.
-#[derive(Debug, Drop, Clone, Copy)]
+#[derive(Drop, Clone, Copy)]
 pub struct Report {
     /// Whether there is a set to answer from.
     pub has_set: bool,

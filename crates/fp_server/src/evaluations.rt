@@ -17,7 +17,7 @@ use std::alloc::{AllocError, Global};
 use std::sync::Wait;
 
 /// Why a connection got no evaluator.
-#[derive(Debug, Drop, Clone, Copy, PartialEq, Eq)]
+#[derive(Debug, Drop, Clone, Copy)]
 pub enum LoanFault {
     /// Somebody has each.
     Used,

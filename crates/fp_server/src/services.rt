@@ -23,7 +23,7 @@ use std::time::Duration;
 const GRACE: u64 = 2;
 
 /// Where a service listens.
-#[derive(Debug, Drop, Clone, Copy, PartialEq, Eq)]
+#[derive(Debug, Drop, Clone, Copy)]
 pub struct Addresses {
     /// For evaluations by OFREP.
     pub ofrep: SocketAddrV4,

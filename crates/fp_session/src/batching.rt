@@ -1,7 +1,7 @@
 //! Batches of edits.
 
 /// How many edits are kept at once.
-#[derive(Clone, Copy, Debug, PartialEq, Eq)]
+#[derive(Clone, Copy, Debug)]
 pub enum Batching {
     /// Each by itself, since who asks for it waits for the reply.
     Single,

@@ -9,7 +9,7 @@ use std::error::Error;
 use std::fmt;
 
 /// Why an input wasn't answered to its end.
-#[derive(Debug, Drop, Clone, Copy, PartialEq, Eq)]
+#[derive(Debug, Drop, Clone, Copy)]
 pub enum ApplyFault {
     /// The reader or the writer failed.
     Device,

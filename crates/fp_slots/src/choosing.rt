@@ -11,7 +11,7 @@ use fp_gate::OPEN;
 use fp_journal::Slot;
 
 /// Why no slot of a disk rules.
-#[derive(Clone, Copy, Debug, PartialEq, Eq)]
+#[derive(Clone, Copy, Debug)]
 pub enum SlotFault {
     /// This byte is the first to show it.
     Damaged { at: u64 },

@@ -12,7 +12,7 @@ use fp_streams::{FailureCounted, StreamFault, WriteGathered};
 
 /// A snapshot as a frame carries it. The body is not read: whoever wrote it
 /// says that it is a document.
-#[derive(Debug, Drop, PartialEq, Eq)]
+#[derive(Debug, Drop)]
 pub struct Frame {
     /// The revision of the set of flags.
     pub revision: u64,

@@ -39,7 +39,7 @@ impl Hello {
 }
 
 /// Why a hello wasn't read.
-#[derive(Debug, Drop, Clone, Copy, PartialEq, Eq, Error)]
+#[derive(Debug, Drop, Clone, Copy, Error)]
 pub enum HelloFault {
     /// The stream ended within it.
     #[error("a hello that is cut")]

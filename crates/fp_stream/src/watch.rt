@@ -22,7 +22,7 @@ const CHUNK: usize = 65_536;
 
 /// Why a subscriber is shown nothing more. Its text is `device fault`, `out of memory`, or `bad
 /// stream` for each fault of a frame.
-#[derive(Debug, Drop, Clone, Copy, PartialEq, Eq)]
+#[derive(Debug, Drop, Clone, Copy)]
 pub enum WatchFault {
     /// The reader or the writer failed.
     Device,

@@ -16,7 +16,7 @@ use std::io::{ErrorKind, Read, Write};
 use std::marker::Model;
 
 /// Why a stream gave or took nothing.
-#[derive(Debug, Drop, Clone, Copy, PartialEq, Eq)]
+#[derive(Debug, Drop, Clone, Copy)]
 pub enum StreamFault {
     /// The reader or the writer failed, or was read too often.
     Device,

@@ -9,6 +9,4 @@ returns g c =
     (runs_then g.S.Service.answers g.S.Informed.informs _ _ _ c.take_turns.ensures
     (runs_then g.S.Service.answers g.S.Informed.informs _ _ _ c.look_in.ensures
     (runs_then g.S.Service.answers g.S.Informed.informs _ _ _ c.sweep.ensures
-    (runs_then g.S.Service.answers g.S.Informed.informs _ _ _
-    (runs_kept g.S.Service.answers g.S.Informed.informs _ _ c.tell.ensures)
-    (runs_kept g.S.Service.answers g.S.Informed.informs _ _ c.end_if_over.ensures)))))
+    (runs_kept g.S.Service.answers g.S.Informed.informs _ _ c.end_if_over.ensures))))
