@@ -12,7 +12,7 @@ SOURCE = r"""
 static long count;
 static int refused(void) {
   char *nth = getenv("REFUSE");
-  if (!nth || ++count != atol(nth)) return 0;
+  if (!nth || __atomic_add_fetch(&count, 1, __ATOMIC_RELAXED) != atol(nth)) return 0;
   NEXT(write);
   next(2, "[refused]\n", 10);
   return 1;

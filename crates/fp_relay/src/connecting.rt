@@ -16,16 +16,27 @@ pub fn connect_within<R: Host>(
     let mut poll = Poll::new(rt)?;
     let mut events = Events::with_capacity(rt.alloc(), 1)?;
     let mut stream = mio::net::TcpStream::connect(rt, SocketAddr::V4(address))?;
-    poll.registry()
-        .register(&mut stream, Token(0), Interest::WRITABLE)?;
-    poll.poll(&mut events, Some(most))?;
-    if events.is_empty() {
-        return Err(io::Error::from(ErrorKind::TimedOut));
-    }
-    if let Some(reason) = stream.take_error()? {
-        return Err(reason);
-    }
+    await_connect(&mut poll, &mut events, &mut stream, most)?;
     let stream = TcpStream::from(stream);
     stream.set_nonblocking(false)?;
     Ok(stream)
+}
+
+// Waits until the connection stands.
+fn await_connect(
+    poll: &mut Poll,
+    events: &mut Events,
+    stream: &mut mio::net::TcpStream,
+    most: Duration,
+) -> io::Result<()> {
+    poll.registry()
+        .register(stream, Token(0), Interest::WRITABLE)?;
+    poll.poll(events, Some(most))?;
+    if events.is_empty() {
+        return Err(io::Error::from(ErrorKind::TimedOut));
+    }
+    match stream.take_error()? {
+        Some(reason) => Err(reason),
+        None => Ok(()),
+    }
 }

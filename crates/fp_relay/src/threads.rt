@@ -1,6 +1,6 @@
 //! The threads of a relay: its loops, who lets connections in, who follows the source, who keeps.
 
-ghost use Rattle.std.specs.Prelude.{◌≡◌};
+ghost use Rattle.std.specs.Prelude.{◌≡◌, [], IfOk};
 ghost use Rattle.fp_stream.specs.Frames.{has_after};
 ghost use Rattle.fp_stream.specs.declared.hello.Hello.TheVariants.{Nothing};
 
@@ -21,7 +21,7 @@ use fp_kept::{KeptFile, KeptFiles};
 use fp_loop::{Door, Informed, Limits, Loop, Loops};
 use fp_relay_replies::Origins;
 use fp_stream::Hello;
-use std::alloc::Global;
+use std::alloc::{AllocError, Global};
 use std::net::SocketAddrV4;
 use std::sync::Arc;
 use std::thread::JoinHandle;
@@ -71,8 +71,15 @@ impl Relaying {
         options: Options<'_>,
         ports: &Ports,
     ) -> io::Result<Relaying> {
+        let mut relaying = Relaying::new(rt)?;
+        relaying.begin_all(rt, files, options, ports)?;
+        Ok(relaying)
+    }
+
+    // None of them has begun.
+    fn new<R: Host>(rt: &R) -> Result<Relaying, AllocError> {
         let alloc = rt.alloc();
-        let mut relaying = Relaying {
+        Ok(Relaying {
             loops: Arc::new(alloc, Loops::new(alloc))?,
             status: Arc::new(alloc, Loops::new(alloc))?,
             numbers: Arc::new(alloc, Numbers::new(rt))?,
@@ -83,14 +90,22 @@ impl Relaying {
             following: None,
             doors: Vec::new(alloc),
             threads: Vec::new(alloc),
-        };
-        let origins = Arc::new(alloc, options.origins)?;
-        told(rt, "loop", relaying.begin_loops(rt, origins))?;
-        told(rt, "status", relaying.begin_status(rt))?;
+        })
+    }
+
+    fn begin_all<R: Host, K: KeptFiles + Send + 'static>(
+        &mut self,
+        rt: &R,
+        files: K,
+        options: Options<'_>,
+        ports: &Ports,
+    ) -> io::Result<()> {
         let (source, keep) = (options.source, options.keep);
-        told(rt, "source", relaying.begin_source(rt, files, source, keep))?;
-        told(rt, "port", relaying.let_in(rt, ports, options.connections))?;
-        Ok(relaying)
+        let origins = Arc::new(rt.alloc(), options.origins)?;
+        told(rt, "loop", self.begin_loops(rt, origins))?;
+        told(rt, "status", self.begin_status(rt))?;
+        told(rt, "source", self.begin_source(rt, files, source, keep))?;
+        told(rt, "port", self.let_in(rt, ports, options.connections))
     }
 
     /// Ends them, and waits until they have. What was shown is kept.
@@ -163,10 +178,27 @@ impl Relaying {
         source: SocketAddrV4,
         keep: Option<&str>,
     ) -> io::Result<()> {
-        let alloc = rt.alloc();
-        let mut showing = Showing {
+        let uplink = Arc::try_clone(&self.uplink)?;
+        let mut showing = self.showing(rt)?;
+        let last = match keep {
+            Some(path) => self.restore_and_keep(rt, files, path, &mut showing)?,
+            None => Hello::Nothing,
+        };
+        let own = *rt;
+        let follow = move ||
+            requires { last ≡ has_after Nothing showing.seen.log }
+        { follow_source(&own, source, &uplink, last, showing) };
+        self.following = Some(thread::spawn(rt, follow)?);
+        Ok(())
+    }
+
+    // What is shown, which is nothing yet.
+    fn showing<R: Host>(&self, rt: &R) -> Result<Showing<R>, AllocError>
+        ensures { IfOk result (λ s. s.seen.log ≡ []) }
+    {
+        Ok(Showing {
             rt: *rt,
-            alloc,
+            alloc: rt.alloc(),
             loops: Arc::try_clone(&self.loops)?,
             numbers: Arc::try_clone(&self.numbers)?,
             shelf: None,
@@ -174,21 +206,25 @@ impl Relaying {
             has_heard: false,
             seen: Growing::new().0,
             put: PutDown::new(),
-        };
-        let mut last = Hello::Nothing;
-        if let Some(path) = keep {
-            let file = KeptFile::at(alloc, path)?;
-            last = restored(rt, &files, &file, &mut showing);
-            showing.shelf = Some(Arc::try_clone(&self.shelf)?);
-            self.begin_keeping(rt, files, file)?;
-        }
-        let own = *rt;
-        let uplink = Arc::try_clone(&self.uplink)?;
-        let follow = move ||
-            requires { last ≡ has_after Nothing showing.seen.log }
-        { follow_source(&own, source, &uplink, last, showing) };
-        self.following = Some(thread::spawn(rt, follow)?);
-        Ok(())
+        })
+    }
+
+    // Shows what the file at this path keeps, and has it keep what is shown from now on.
+    fn restore_and_keep<R: Host, K: KeptFiles + Send + 'static>(
+        &mut self,
+        rt: &R,
+        files: K,
+        path: &str,
+        showing: &mut Showing<R>,
+    ) -> io::Result<Hello>
+        requires { showing.old.seen.log ≡ [] }
+        ensures { IfOk result (λ last. last ≡ has_after Nothing showing.new.seen.log) }
+    {
+        let file = KeptFile::at(rt.alloc(), path)?;
+        let last = restored(rt, &files, &file, showing);
+        showing.shelf = Some(Arc::try_clone(&self.shelf)?);
+        self.begin_keeping(rt, files, file)?;
+        Ok(last)
     }
 
     fn begin_keeping<R: Host, K: KeptFiles + Send + 'static>(

@@ -101,18 +101,22 @@ pub fn options_of<'w>(alloc: Global, words: &'w [&'w str]) -> Result<Options<'w>
         Ok(matches) => matches,
         Err(fault) => return Err(told(alloc, &fault)?),
     };
+    options_in(alloc, &matches)
+}
+
+fn options_in<'w>(alloc: Global, matches: &ArgMatches<'w>) -> Result<Options<'w>, WordsFault<'w>> {
     let source = source_of(matches.get_str("source").unwrap_or(""))?;
     let ofrep = address_of("OFREP", matches.get_str("ofrep").unwrap_or(""))?;
     let stream = address_at("--stream", matches.get_str("stream"))?;
     let status = address_at("--status", matches.get_str("status"))?;
-    check_origins(&matches)?;
+    check_origins(matches)?;
     Ok(Options {
         source,
         ofrep,
         stream,
         status,
         keep: matches.get_str("keep"),
-        origins: origins_of(alloc, &matches)?,
+        origins: origins_of(alloc, matches)?,
         connections: matches
             .get_one::<u32>("connections")
             .unwrap_or(USUAL_CONNECTIONS),

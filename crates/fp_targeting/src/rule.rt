@@ -103,13 +103,7 @@ impl Rule {
     {
         let arena = Bump::new(alloc);
         let json = Json::of_value(&arena, value)?;
-        if !json.nests_within(DEEPEST_RULE) {
-            return Err(RuleFault::TooDeep);
-        }
-        if !json.has_whole_numbers() {
-            return Err(refusal(alloc, &json));
-        }
-        Rule::from_tree(alloc, &json)
+        compiled(alloc, &json)
     }
 
     /// The same of a tree that nests within the limit and has whole numbers; neither is tested
@@ -190,6 +184,20 @@ impl Rule {
     {
         let _code = &self.code;
     }
+}
+
+// The rule that a tree writes.
+fn compiled(alloc: Global, json: &Json<'_>) -> Result<Rule, RuleFault>
+    requires { IsOrdered (tree_view json.now) }
+    ensures { Gives (λ rule. rule) Tells result (verdict (tree_view json.now)) }
+{
+    if !json.nests_within(DEEPEST_RULE) {
+        return Err(RuleFault::TooDeep);
+    }
+    if !json.has_whole_numbers() {
+        return Err(refusal(alloc, json));
+    }
+    Rule::from_tree(alloc, json)
 }
 
 // Why a value is no rule that nests within the limit: an unknown operator comes before all that is
