@@ -39,11 +39,12 @@ pub fn open_for<R: Files<File = File>>(rt: &R, path: &str, purpose: Purpose) -> 
     Ok(file)
 }
 
-// Has the folder of a path keep the names that it has now. One that can't be opened to be read, or
-// whose file system syncs no folders, isn't asked.
+// Has the folder of a path keep the names that it has now. One that may not be read, or whose file
+// system syncs no folders, isn't asked.
 fn sync_name<R: Files<File = File>>(rt: &R, path: &str) -> io::Result<()> {
-    let Ok(folder) = File::open(rt, folder_of(path)) else {
-        return Ok(());
+    let folder = match File::open(rt, folder_of(path)) {
+        Err(fault) if fault.kind() == ErrorKind::PermissionDenied => return Ok(()),
+        opened => opened?,
     };
     match folder.sync_all() {
         Err(fault) if fault.kind() != ErrorKind::InvalidInput => Err(fault),
