@@ -29,7 +29,7 @@ pub struct Counted {
     pub subscribers: u64,
     /// Connections that were let in.
     pub accepted: u64,
-    /// Connections that were closed because there was no place for them.
+    /// Connections that were closed because there was no place or no descriptor for them.
     pub refused: u64,
 }
 
@@ -70,7 +70,7 @@ impl Counts {
         add_one(&self.refused);
     }
 
-    /// So many connections that were let in have ended.
+    /// A connection that was let in has ended.
     pub fn left(&self, role: Role) {
         self.of(role).fetch_sub(1, Ordering::SeqCst);
     }

@@ -38,3 +38,11 @@ where
         + Drop
         + 'static,
 {}
+
+/// What the runtime's clock shows, in milliseconds since some moment, and 0 without one.
+pub fn milliseconds<R: Clock>(rt: &R) -> u64 {
+    match rt.monotonic() {
+        Ok(since) => since.as_millis().min(u64::MAX as u128) as u64,
+        Err(_) => 0,
+    }
+}

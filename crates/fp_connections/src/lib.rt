@@ -12,7 +12,7 @@ mod standard;
 mod taking;
 
 pub use counts::{Counted, Counts, Role};
-pub use host::Host;
+pub use host::{Host, milliseconds};
 pub use listener::{Closed, Listener};
 pub use probing::probe_peers;
 pub use sparing::took_one_of_the_last;

@@ -11,7 +11,7 @@ const STANDARD_ERROR: i32 = 2;
 
 // What takes the place of a closed stream, the first of these that can be opened for reading: a folder
 // can neither be read nor written, and the device is empty and can't be written through this.
-const HOLDING: [&str; 3] = ["/", "/dev/null", "."];
+const HOLDING: [&str; 3] = ["/", ".", "/dev/null"];
 
 /// Takes the descriptors of standard streams that are closed, for as long as these files are held.
 /// Else a file or a socket that is opened later gets one, and what is written to that stream goes

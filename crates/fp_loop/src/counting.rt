@@ -18,7 +18,7 @@ pub(crate) struct Counting<S: Drop> {
 
 impl<S: Drop> Counting<S> {
     /// Tells the service of a request that was refused with this status.
-    pub(crate) fn count_refusal<N>(&mut self, refusal: Option<u16>)
+    pub(crate) fn tell_refusal<N>(&mut self, refusal: Option<u16>)
     where
         S: Informed<N>,
         ensures { self.new.service ≡ self.old.service }

@@ -17,7 +17,7 @@ use crate::queue::{WAKE, keep_if, mark, remove};
 use crate::talk::Beginning;
 use crate::times::Limits;
 use crate::turn::Turn;
-use fp_connections::Counts;
+use fp_connections::{Counts, milliseconds};
 use fp_news::{Newest, News};
 use mio::{Events, Poll, Token, Waker};
 use slab::Slab;
@@ -27,7 +27,7 @@ use std::net::Net;
 use std::random::RandomSource;
 use std::sync::{Arc, Wait};
 use std::time::{Clock, Duration};
-use std::{io, mem, thread};
+use std::{io, thread};
 
 // How many events one wait gives.
 const EVENTS: usize = 1024;
@@ -239,7 +239,7 @@ where
         let turn = member.turn(&mut self.service, &self.shown, ends, now);
         member.is_queued = turn == Turn::Goes;
         let refusal = member.take_refusal();
-        self.service.count_refusal(refusal);
+        self.service.tell_refusal(refusal);
         turn
     }
 
@@ -274,13 +274,5 @@ where
             return true;
         };
         member.look_after(&self.beginning, &mut self.service, &self.limits, now)
-    }
-}
-
-// The milliseconds of the runtime's clock, and 0 without one.
-fn milliseconds<R: Clock>(rt: &R) -> u64 {
-    match rt.monotonic() {
-        Ok(time) => time.as_millis().min(u64::MAX as u128) as u64,
-        Err(_) => 0,
     }
 }

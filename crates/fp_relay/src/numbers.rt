@@ -1,5 +1,6 @@
 //! The numbers of a running relay, which its threads count together.
 
+use fp_connections::milliseconds;
 use fp_relay_replies::{Answered, Report};
 use std::sync::atomic::{AtomicBool, AtomicU64, Ordering};
 use std::time::Clock;
@@ -172,12 +173,4 @@ fn read(count: &AtomicU64) -> u64 {
 
 fn seconds_since(at: &AtomicU64, now: u64) -> u64 {
     now.saturating_sub(read(at)) / 1000
-}
-
-// What the clock shows, and 0 without one.
-fn milliseconds<R: Clock>(rt: &R) -> u64 {
-    match rt.monotonic() {
-        Ok(since) => since.as_millis().min(u64::MAX as u128) as u64,
-        Err(_) => 0,
-    }
 }

@@ -8,7 +8,7 @@ use Rattle.fp_loop.proofs.turning.Loop.give_turn.Goals as goal
 pub returns-clause-on : goal.returns-clause-on
 returns-clause-on g c =
     runs_served g.S.Service.answers g.S.Informed.informs _ _
-    (subst (λ s. Serves g.S.Service.answers c.args.self.now.service.service s) (sym c.count_refusal.ensures)
+    (subst (λ s. Serves g.S.Service.answers c.args.self.now.service.service s) (sym c.tell_refusal.ensures)
     c.turn-turn.ensures.serves)
     refl
 
