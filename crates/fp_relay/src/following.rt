@@ -47,7 +47,7 @@ pub struct Showing<R: Drop> {
 }
 
 impl<R: Wait + Log + Drop> Showing<R> {
-    /// Shows a set to the loops.
+    /// Shows a set to the loops. The next is read beside it.
     pub fn show_set(&mut self, set: &Arc<Set, Global>) -> Result<(), AllocError>
         // `Ok`: it was shown behind what was.
         ensures shown { OnOk result (self.new.seen.log
@@ -58,10 +58,12 @@ impl<R: Wait + Log + Drop> Showing<R> {
         ensures put { (self.new.shelf ≡ self.old.shelf) × (self.new.put ≡ self.old.put) }
     {
         let (revision, flags) = (set.revision(), set.shown().set().len() as u64);
+        let last = Arc::try_clone(set)?;
         self.loops.post_news(&self.rt, set)?;
         self.numbers.show(revision, flags);
         tell(&self.rt, &Event::Shown { revision, flags });
         self.seen.lengthen::<Set, OfSet>(set);
+        self.last = Some(last);
         Ok(())
     }
 }
@@ -91,13 +93,11 @@ impl<R: Wait + Clock + Log + Drop> Audience for Showing<R> {
         let bytes = (HEAD + shown.document().len()) as u64;
         let set = Arc::new(self.alloc, Set::of(shown))?;
         let kept = Arc::try_clone(&set)?;
-        let last = Arc::try_clone(&set)?;
         self.show_set(&set)?;
         self.numbers.take(&self.rt, bytes);
         if let Some(shelf) = &self.shelf {
             shelf.put(&self.rt, kept, &mut self.put);
         }
-        self.last = Some(last);
         Ok(())
     }
 
@@ -143,9 +143,12 @@ pub fn follow_source<R: Host>(
     unreachable!()
 }
 
-// Whether what came was as it should be.
+// Whether what came was as it should be, and there was memory for it.
 fn is_well(ended: &io::Result<SourceEnd>) -> bool {
-    !matches!(ended, Ok(SourceEnd::BadFrame(_) | SourceEnd::NoSet))
+    !matches!(
+        ended,
+        Ok(SourceEnd::BadFrame(_) | SourceEnd::NoSet | SourceEnd::Memory)
+    )
 }
 
 // One connection to the source, from its beginning to its end.
