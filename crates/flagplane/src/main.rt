@@ -7,7 +7,7 @@ use fp_files::SystemFiles;
 use fp_log::{Reported, Source, Stamped};
 use fp_server::{Host, Moment, attend};
 use fp_streams::FailureCounted;
-use log::{Level, LevelFilter, Logged};
+use log::{LevelFilter, Logged};
 use std::alloc::AllocGlobal;
 use std::env;
 use std::fs::File;

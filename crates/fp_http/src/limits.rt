@@ -3,7 +3,6 @@
 ghost use Rattle.std.specs.Prelude.{◌≡◌, ◌*◌};
 ghost use Rattle.std.specs.Duration.{as_nanos};
 
-use std::fmt;
 use std::io::ErrorKind;
 use std::time::Duration;
 
@@ -49,16 +48,4 @@ pub enum Stop {
     Memory,
     /// The stream failed.
     Fault(ErrorKind),
-}
-
-impl fmt::Display for Stop {
-    fn fmt<W: fmt::Write>(&self, f: &mut fmt::Formatter<W>) -> fmt::Result {
-        match self {
-            Stop::Idle => f.write_str("idle"),
-            Stop::SlowRequest => f.write_str("slow request"),
-            Stop::SlowReply => f.write_str("slow reply"),
-            Stop::Memory => f.write_str("out of memory"),
-            Stop::Fault(kind) => write!(f, "{kind}"),
-        }
-    }
 }

@@ -17,7 +17,7 @@ use Rattle.fp_relay.specs.contracts.set.Set.TheInside as set_inside
 use Rattle.fp_relay.specs.contracts.shelf.Shelf as shelf
 use Rattle.fp_relay.specs.contracts.waiting.PutDown.TheInside as put_down_inside
 use Rattle.fp_relay.specs.contracts.waiting.PutDown as put_down
-use Rattle.fp_relay.specs.contracts.waiting.Waiting as waiting
+use Rattle.fp_relay.specs.contracts.waiting.OnShelf as waiting
 
 pub set_sent : IsSend set.the_row
 set_sent = let T = set_inside.the_type in view_send _ _ _ _ _ (recorded_send _ _ _ T.to_one (struct_send (shape T) (shown_sent, tt)))

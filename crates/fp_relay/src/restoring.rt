@@ -10,9 +10,8 @@ use crate::set::Set;
 use fp_connections::Host;
 use fp_kept::{KeptFile, KeptFiles};
 use fp_shown::Shown;
-use fp_stream::{Frame, Hello};
+use fp_stream::Hello;
 use std::io;
-use std::io::ErrorKind;
 use std::sync::Arc;
 
 /// Shows what the file keeps, and answers what is shown then.

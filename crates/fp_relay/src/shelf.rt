@@ -5,7 +5,7 @@ ghost use Rattle.std.specs.Arc.{arc_value};
 
 use crate::events::{Event, tell_failure};
 use crate::set::Set;
-use crate::waiting::{PutDown, Waiting};
+use crate::waiting::{OnShelf, PutDown};
 use fp_connections::Host;
 use fp_kept::{KeptFile, KeptFiles, parts_of};
 use fp_news::News;
@@ -19,7 +19,7 @@ const AGAIN: u64 = 5;
 /// Where the newest set is put down for the thread that keeps it.
 #[derive(Drop)]
 pub struct Shelf {
-    waiting: Mutex<Waiting>,
+    waiting: Mutex<OnShelf>,
     changed: Condvar,
 }
 
@@ -27,7 +27,7 @@ impl Shelf {
     /// With nothing on it.
     pub fn new() -> Shelf {
         Shelf {
-            waiting: Mutex::new(Waiting::new()),
+            waiting: Mutex::new(OnShelf::new()),
             changed: Condvar::new(),
         }
     }

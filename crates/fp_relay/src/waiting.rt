@@ -9,7 +9,7 @@ use std::alloc::Global;
 use std::marker::Model;
 use std::sync::Arc;
 
-/// The sets that were put down so far, in turn, in proofs alone: `Waiting::put` alone lengthens it.
+/// The sets that were put down so far, in turn, in proofs alone: `OnShelf::put` alone lengthens it.
 #[derive(Drop)]
 pub struct PutDown {
     sets: Growing<Set>,
@@ -37,17 +37,17 @@ impl PutDown {
 
 /// The set that waits to be kept, and whether another may come.
 #[derive(Drop)]
-pub struct Waiting {
+pub struct OnShelf {
     pub set: Option<Arc<Set, Global>>,
     pub is_closed: bool,
 }
 
-impl Waiting {
+impl OnShelf {
     /// None waits.
-    pub fn new() -> Waiting
+    pub fn new() -> OnShelf
         ensures { result.set ≡ None }
     {
-        Waiting {
+        OnShelf {
             set: None,
             is_closed: false,
         }

@@ -124,6 +124,11 @@ impl<R: Wait + Clock + Drop> Connections<R> {
         self.shared.left.notify_all();
     }
 
+    /// Whether no stream is let in any more, and no more is read of any, as at a stop.
+    pub fn is_closed(&self) -> bool {
+        self.shared.streams.lock(&self.shared.rt).is_closed
+    }
+
     /// Waits until none is open, for no longer than this.
     pub fn wait(&self, most: Duration) {
         let shared = &self.shared;
@@ -143,8 +148,7 @@ pub struct Place<R: Wait + Clock + Drop> {
 impl<R: Wait + Clock + Drop> Place<R> {
     /// Whether no more of its stream is read, as at a stop.
     pub fn is_closed(&self) -> bool {
-        let shared = &self.connections.shared;
-        shared.streams.lock(&shared.rt).is_closed
+        self.connections.is_closed()
     }
 }
 

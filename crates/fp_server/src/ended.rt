@@ -11,14 +11,14 @@ use std::net::SocketAddr;
 #[derive(Debug, Drop, Clone, Copy, PartialEq, Eq)]
 pub enum Ended {
     /// The peer ended it, or the service did, behind a last reply or as it stopped.
-    ByPeer,
+    Well,
     /// It said nothing between two requests, for too long.
     Idle,
     /// A request that had begun wasn't whole in time, or a hello's next byte didn't come.
     SlowRequest,
     /// Nothing of a reply was taken, for too long.
     SlowReply,
-    /// What came to the editors' port is an HTTP request.
+    /// What came to the editors' port is an HTTP request, or begins a TLS handshake.
     HttpRequest,
     /// What came to the subscribers' port is no hello.
     NoHello,
@@ -41,10 +41,10 @@ impl From<Stop> for Ended {
 }
 
 impl Ended {
-    /// Tells why a connection of this port ended, where its peer didn't end it.
+    /// Tells why a connection of this port ended, where it didn't end well.
     pub fn tell<R: Log>(self, rt: &R, port: Port, peer: SocketAddr) {
         let cause = match self {
-            Ended::ByPeer => return,
+            Ended::Well => return,
             Ended::Idle => Cause::Idle,
             Ended::SlowRequest => Cause::SlowRequest,
             Ended::SlowReply => Cause::SlowReply,

@@ -175,14 +175,16 @@ where
     let port = role.port();
     let Some(place) = place_for(&stream, role, connections, plane)? else {
         drop(stream);
-        Ended::NoPlace.tell(rt, port, peer);
+        if !connections.is_closed() {
+            Ended::NoPlace.tell(rt, port, peer);
+        }
         return Ok(());
     };
     let plane = plane.try_copy()?;
     let own = *rt;
     let started = thread::spawn(rt, move || {
         let ended = converse(&own, role, limits, &plane, &stream, &place);
-        if ended == Ended::ByPeer || place.is_closed() {
+        if ended == Ended::Well || place.is_closed() {
             linger(&own, &stream, &place);
         }
         drop(stream);

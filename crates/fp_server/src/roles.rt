@@ -107,7 +107,7 @@ where
     let served = serve_ofrep(rt, connection, evaluator, now, of_answers);
     match (kept.get(), served) {
         (Some(stop), _) => stop.into(),
-        (None, Ok(_evaluator)) => Ended::ByPeer,
+        (None, Ok(_evaluator)) => Ended::Well,
         (None, Err(reason)) => Ended::Fault(reason.kind()),
     }
 }
@@ -150,7 +150,7 @@ where
     O: Write,
 {
     match editor_loop(&mut Editing::new(plane), rt.alloc(), r, w) {
-        Ok(EditorEnd::Served(_told)) => Some(Ended::ByPeer),
+        Ok(EditorEnd::Served(_told)) => Some(Ended::Well),
         Ok(EditorEnd::HttpRequest) => Some(Ended::HttpRequest),
         Err((StreamFault::Memory, _)) => Some(Ended::Fault(ErrorKind::OutOfMemory)),
         Err((StreamFault::Device, _)) => None,
@@ -185,11 +185,11 @@ where
 {
     let (ended, _shown) = subscriber_loop(plane, r, w, || has_left(stream));
     match ended {
-        Ok(_gone) => Some(Ended::ByPeer),
+        Ok(_gone) => Some(Ended::Well),
         Err(SubscriberFault::TooLong) => Some(Ended::Fault(ErrorKind::FileTooLarge)),
         Err(SubscriberFault::Hello(HelloFault::Device)) | Err(SubscriberFault::Device) => None,
         // Who asks whether the port is there says nothing, or less than a hello.
-        Err(SubscriberFault::Hello(HelloFault::Cut)) => Some(Ended::ByPeer),
+        Err(SubscriberFault::Hello(HelloFault::Cut)) => Some(Ended::Well),
         Err(SubscriberFault::Hello(HelloFault::BadHello)) => Some(Ended::NoHello),
         Err(SubscriberFault::SeatsUsed) => Some(Ended::NoPlace),
     }

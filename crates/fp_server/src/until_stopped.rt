@@ -31,7 +31,7 @@ impl<R: Wait + Clock + Drop> UntilStopped<'_, R> {
     /// Why it failed last, if it did.
     pub fn ended(&self) -> Option<Ended> {
         if self.is_stopped {
-            return Some(Ended::ByPeer);
+            return Some(Ended::Well);
         }
         self.said.ended()
     }

@@ -21,11 +21,11 @@ pub struct LogFile(pub HostRuntime);
 impl LogFile {
     /// Forgets what was told.
     pub fn clear(&self) {
-        let _ = fs::remove_file(&self.0, NAME);
+        self.remove_beside(NAME);
     }
 
     /// Removes a file that a trial left beside it.
-    pub fn forget(&self, name: &str) {
+    pub fn remove_beside(&self, name: &str) {
         let _ = fs::remove_file(&self.0, name);
     }
 

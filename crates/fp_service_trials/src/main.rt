@@ -7,7 +7,6 @@ mod clients;
 mod courses;
 mod crowd;
 mod held;
-mod host;
 mod log_file;
 mod operands;
 mod program;

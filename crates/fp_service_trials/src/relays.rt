@@ -1,7 +1,8 @@
 //! Relays that run beside the service, and a source of frames that a trial plays.
 
 use crate::running::{Pipes, address, both_ends};
-use fp_relay::{Host, SystemFiles, options_of, relay};
+use fp_relay::{SystemFiles, options_of, relay};
+use fp_server::Host;
 use fp_streams::FailureCounted;
 use fp_transcript::Text;
 use std::alloc::{AllocGlobal, Global};

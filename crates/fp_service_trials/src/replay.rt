@@ -1,9 +1,9 @@
 //! The commands of a file, and their answers, one behind the other: what a command starts in a
 //! thread rests on bounds of a function, and in a method of a trait none holds in another thread.
 
-use crate::host::Host;
 use crate::log_file::LogFile;
 use crate::script::Script;
+use fp_server::Host;
 use fp_transcript::{Answers, Text, transcript};
 use std::alloc::{AllocError, AllocGlobal};
 use std::collections::VecDeque;

@@ -7,7 +7,6 @@ use crate::courses::{
     Courses, seen, shown, start_editors, start_evaluators, start_subscribers, told,
 };
 use crate::crowd::{comes_in, enter, found, is_refused, see};
-use crate::host::Host;
 use crate::log_file::LogFile;
 use crate::operands::{
     bytes, course, filled, first_line, hold_of, is_at, limits_of, say_last, say_told,
@@ -15,7 +14,7 @@ use crate::operands::{
 use crate::program::attended;
 use crate::relays::{Relays, judged};
 use crate::running::{DiskPlan, Ended, Plan, Running};
-use fp_server::TimeLimits;
+use fp_server::{Host, TimeLimits};
 use fp_transcript::{Args, Text, Texts};
 use std::alloc::AllocGlobal;
 use std::collections::BTreeMap;
@@ -326,7 +325,7 @@ impl<R: Host> Script<R> {
             "source" => out.push("no source"),
             "takes" => self.take(args, out),
             "leaves" => drop(self.peers.remove(args.word())),
-            "forget" => self.log.forget(args.word()),
+            "forget" => self.log.remove_beside(args.word()),
             _ => match self.port(args) {
                 Some(at) if word == "page" => {
                     out.yes(page_has(&self.rt, at, args.word(), args.rest));

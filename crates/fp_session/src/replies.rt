@@ -18,7 +18,7 @@ ghost use Rattle.fp_streams.specs.declared.counted.StreamFault.TheVariants.{Devi
 
 use crate::show::shown;
 use crate::{ApplyFault, EditStore, Reply};
-use fp_edit::{Edit, FlagSet, LineFault};
+use fp_edit::{Edit, LineFault};
 use fp_streams::{FailureCounted, StreamFault};
 use std::alloc::{AllocError, Global};
 use std::io::Write;

@@ -3,7 +3,7 @@
 
 use crate::commands::{How, ran};
 use crate::text::bytes_of;
-use crate::trial::{Answer, Fault, Trial, tell_fault};
+use crate::trial::{Answer, Trial, tell_fault};
 use fp_commands::CommandFault;
 use fp_disk::{Disk, DiskFault, FileDisk};
 use fp_log::{Reported, Source};

@@ -4,7 +4,7 @@ use crate::disk::{crash_as, failed_write};
 use crate::run::step;
 use crate::trial::{Answer, Fault, Trial};
 use fp_disk::{Choice, FailedWrite, Failing, Fill};
-use fp_transcript::{Args, Text};
+use fp_transcript::Text;
 
 /// What becomes of pending bytes.
 pub const FILLS: [Fill; 8] = [
