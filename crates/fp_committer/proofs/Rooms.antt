@@ -1,13 +1,10 @@
 -- A store over the steps of compactions, and how few of them are left.
-use Rattle.std.proofs.Common.{◌≡◌, ◌≢◌, ◌<◌, ◌≤◌, ◌+◌, ◌-◌, ◌*◌, ◌^◌, ℕ, suc, true, false, [], ◌∷◌, ◌++◌, refl, sym, ap}
+use Rattle.std.proofs.Common.{◌≡◌, ◌≢◌, ◌<◌, ◌≤◌, ◌+◌, ◌-◌, ◌*◌, ◌^◌, ℕ, true, false, [], ◌∷◌, ◌++◌, refl, sym, ap}
 use Rattle.std.proofs.Common.{subst, ◌∙◌, inl, inr, arith, append-nil}
 use Rattle.std.specs.Prelude.{◌↔◌, Bool, IsTrue, length, nat_le, nat_lt}
-use Rattle.std.proofs.Math.Nat.{suc-mul}
 use borrow.Author.Tests.{leb-true, leb-false}
 use Rattle.fp_disk.specs.Crashes.{AtAnyMoment, EachCrash, SameHonesty}
 use Rattle.fp_disk.specs.History.{MakesSome}
-use Rattle.fp_disk.specs.Moments.{leaves_still}
-use Rattle.fp_disk.specs.Outcomes.{IsOutcome}
 use Rattle.fp_disk.specs.declared.disk.Disk.{Ghosts}
 use Rattle.fp_edit.specs.Flags.{State}
 use Rattle.fp_edit.specs.Log.{after_all}
@@ -19,7 +16,7 @@ use Rattle.fp_slots.specs.State.{HasBegun, IsEarly}
 use Rattle.fp_slots.specs.declared.places.TheConstants.{IMAGE_PLACE}
 use Rattle.fp_slots.specs.declared.slots.Step.{Step}
 use Rattle.fp_slots.specs.declared.slots.Step.TheVariants.{Begin, Close, SyncClose, Part, Tail, SyncBody, Open, SyncOpen}
-use Rattle.fp_compaction.specs.Steps.{calls_of, next_left, next_step}
+use Rattle.fp_compaction.specs.Steps.{calls_of, next_step}
 use Rattle.fp_group_commit.specs.Calls.{Compacts}
 use Rattle.fp_group_commit.specs.Changes.{HasNoRoom, HasRoom}
 use Rattle.fp_group_commit.specs.Store.{Leaves, MayCompact, StoreState, sealed_set}
@@ -46,19 +43,6 @@ module _ {D : Type 0} (disk : Ghosts D) where
     any_moment = weaker disk a.disk b.disk (Leaves a) (λ c. StandsFor c (sealed_set a)) (idle_keeps a idle) moment;
     now = λ h c o. idle_keeps b (step ∙ idle) c (exit h c o);
     honest = same;
-  }
-
-  pub stays_none : ((x : D) (c : _) → disk.honest x → disk.crash_states_since x (disk.moment x) c → IsOutcome (disk.unsynced x) c)
-      → (a : StoreState D) → EachCrash disk a.disk (λ c. StandsFor c (sealed_set a)) → StaysAt disk a a
-  stays_none only_now a keeps = record {
-    store = refl;
-    sealed = refl;
-    staged = refl;
-    phase = refl;
-    any_moment = λ h. leaves_still disk.moment disk.crash_states_since a.disk (λ c. StandsFor c (sealed_set a))
-        (λ c left. keeps h c (only_now a.disk c h left));
-    now = keeps;
-    honest = (λ h. h, λ h. h);
   }
 
   pub stays_then : (a b c : StoreState D) → StaysAt disk a b → StaysAt disk b c → StaysAt disk a c
@@ -136,36 +120,12 @@ abbrev pub work_left : {D : Type 0} → StoreState D → ℕ
 work_left s = (2 ^ 64 - s.compaction.generation) * (IMAGE_PLACE + s.store.start.limit + 9)
     + steps_left s.compaction.next s.compaction.left (IMAGE_PLACE + s.store.start.limit)
 
--- a generation more is worth all steps of a compaction
-worth : (r most : ℕ) → r * (most + 9) + (most + 8) < suc r * (most + 9) + 1
-worth r most = grind (arith, suc-mul)
-
-falls_at : (p : Step) (left next g h most : ℕ) → (p ≢ Begin → next ≡ next_left p left) →
-    (p ≡ Begin → next + 1 ≤ most) → (p ≢ SyncOpen → h ≡ g) → (p ≡ SyncOpen → h ≡ g + 1) → h < 2 ^ 64
-    → (2 ^ 64 - h) * (most + 9) + steps_left (next_step p left) next most < (2 ^ 64 - g) * (most + 9) + steps_left p left most
-falls_at p left next g h most stays begun same turned small = grind (arith, worth)
-
-pub falls : {D : Type 0} (faults : D → ℕ) (a b : StoreState D) → b.store ≡ a.store → Compacts faults a b → work_left b < work_left a
-falls faults a b store c =
-    let most : ℕ = IMAGE_PLACE + a.store.start.limit in
-    let limit = ap (λ (x : Identity). IMAGE_PLACE + x.start.limit) store in
-    let fell = falls_at a.compaction.next a.compaction.left b.compaction.left a.compaction.generation b.compaction.generation most c.left
-    (λ at. let p = c.begun at in let head = p.head in let small = p.small in let left = p.left in omega (arith, head, small, left))
-    (λ on. (c.slots_stay on).1) (λ at. (c.slots_turn at).1) c.numbered in
-    subst (λ (q : Step). (2 ^ 64 - b.compaction.generation) * (IMAGE_PLACE + b.store.start.limit + 9) + steps_left q
-    b.compaction.left (IMAGE_PLACE + b.store.start.limit) < work_left a) (sym c.next)
-    (subst (λ (m : ℕ). (2 ^ 64 - b.compaction.generation) * (m + 9) + steps_left
-    (next_step a.compaction.next a.compaction.left) b.compaction.left m < work_left a) (sym limit) fell)
-
 -- ---- how many compactions ended
 -- where one ran it runs still, or it came to its end
 pub record RanOn {D : Type 0} (a b : StoreState D) : Type 0 where
   pub none : a.compaction.next ≡ Begin → b ≡ a
   pub runs : a.compaction.next ≢ Begin → b.compaction.next ≢ Begin → b.compaction.generation ≡ a.compaction.generation
   pub ended : a.compaction.next ≢ Begin → b.compaction.next ≡ Begin → b.compaction.generation ≡ a.compaction.generation + 1
-
-pub ran_none : {D : Type 0} (a : StoreState D) → RanOn a a
-ran_none a = record { none = λ at. refl; runs = λ on more. refl; ended = λ on at. absurd (on at) }
 
 ran_by : (p : Step) (left g h k : ℕ) → p ≢ Begin → (p ≢ SyncOpen → h ≡ g) → (p ≡ SyncOpen → h ≡ g + 1) → g ≡ k
     → (next_step p left ≢ Begin → h ≡ k) × (next_step p left ≡ Begin → h ≡ k + 1)

@@ -1,14 +1,13 @@
 -- What holds of a committer, as its desk goes on.
-use Rattle.std.proofs.Common.{◌≡◌, ◌<◌, ◌≤◌, ◌+◌, ℕ, zero, suc, false, true, List, [], ◌∷◌, ◌++◌, length, get_or, refl}
-use Rattle.std.proofs.Common.{sym, ap, subst, ◌∙◌, arith, append_assoc, length-append}
+use Rattle.std.proofs.Common.{◌≡◌, ◌<◌, ◌+◌, ℕ, zero, suc, false, true, List, [], ◌∷◌, ◌++◌, length, get_or, refl}
+use Rattle.std.proofs.Common.{sym, ap, subst, ◌∙◌, arith, length-append}
 use Rattle.fp_edit.specs.Edits.{Change, Proposal}
 use Rattle.fp_record.specs.Group.{Group}
-use Rattle.fp_group_commit.specs.Tokens.{Identity}
 use Rattle.fp_desk.specs.Desk.{DeskState, IsNewDraw, Refuses, TicketState, log, settled_revision}
 use Rattle.fp_desk.specs.declared.fault.SubmitFault.{SubmitFault}
 use Rattle.fp_desk.specs.declared.fault.SubmitFault.TheVariants as submit
-use Rattle.fp_committer.specs.Commits.{Commits, Submits, all_settled}
-use Rattle.fp_committer.specs.Committer.{Agree, AreHalves, DeskHalfState, IsCommitter, NumberedFrom}
+use Rattle.fp_committer.specs.Commits.{Commits, Submits}
+use Rattle.fp_committer.specs.Committer.{DeskHalfState, IsCommitter, NumberedFrom}
 use Rattle.fp_committer.specs.Halves.{ArePair, HalfState}
 use Rattle.fp_committer.specs.StoreHalf.{StoreHalfState}
 use Rattle.fp_committer.specs.declared.event.Answer.TheVariants as answer
@@ -42,9 +41,6 @@ drawn_log d n group draws = ap log draws.new_is ∙
     ap (λ (l : List Change). d.settled ++ l) (sym draws.longest.parts) ∙
     ap (λ (l : List Change). d.settled ++ (l ++ d.waiting)) (sym draws.none_out)
 
-pub settled_log : (d n : DeskState) → n ≡ all_settled d → log n ≡ log d
-settled_log d n is = ap log is ∙ append_assoc d.settled d.drawn d.waiting
-
 module _ {D : Type 0} {a : DeskHalfState} {b : StoreHalfState D} {ts : List TicketState} {start told : ℕ}
     (w : IsCommitter a b ts start told) where
   -- the desk has an edit more, with its ticket
@@ -72,21 +68,4 @@ module _ {D : Type 0} {a : DeskHalfState} {b : StoreHalfState D} {ts : List Tick
         numbered = subst (λ (l : List TicketState). NumberedFrom (start + 1) l) (sym more)
             (numbered_more (start + 1) ts t w.numbered (omega (arith, revision, len, one, count, begun, same)));
         counted = omega (arith, tickets, last, count, len, one);
-      }
-
-  -- the desk has drawn or settled, and so has the store's half: the log is the same, and no less is settled
-  pub went_on : (n : DeskHalfState) (m : StoreHalfState D) → AreHalves n m → Agree n m →
-      n.desk.store ≡ a.desk.store → log n.desk ≡ log a.desk → n.desk.stopped ≡ a.desk.stopped →
-      length a.desk.settled ≤ length n.desk.settled → IsCommitter n m ts start told
-  went_on n m halves agree store same stopped more =
-      let len = ap length same in let count = w.counted in let begun = w.start_is in
-      let start' = ap (λ (x : Identity). x.start.revision) store in let low = w.low in
-      record {
-        halves = halves;
-        agree = agree;
-        low = omega (arith, low, more, start');
-        open_desk = stopped ∙ w.open_desk;
-        start_is = omega (arith, begun, start');
-        numbered = w.numbered;
-        counted = omega (arith, len, count);
       }

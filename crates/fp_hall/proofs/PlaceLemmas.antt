@@ -2,7 +2,7 @@
 use Rattle.std.proofs.Common.{◌≡◌, ◌≤◌, ◌<◌, ◌+◌, ◌++◌, ◌∷◌, ℕ, Ok, Err, Some, None, List, [], length, sym, ap, ◌∙◌}
 use Rattle.std.proofs.Common.{append_assoc, arith}
 use Rattle.std.specs.Prelude.{IfNone, IfOk, MatchOption, OnErr, Option, Result}
-use Rattle.fp_committer.specs.Committer.{DeskHalfState, HaveDrawn, HaveSettled}
+use Rattle.fp_committer.specs.Committer.{DeskHalfState, HaveDrawn}
 use Rattle.fp_committer.specs.StoreHalf.{StoreHalfState}
 use Rattle.fp_desk.specs.Desk.{DeskState, IsNewDraw, log, settled_revision}
 use Rattle.fp_edit.specs.Edits.{Change}
@@ -53,10 +53,6 @@ drawn-log a n group draw =
 pub have_drawn-log : {D : Type 0} (a n : DeskHalfState) (b m : StoreHalfState D) (count : ℕ) → HaveDrawn a n b m count →
     log n.desk ≡ log a.desk
 have_drawn-log a n b m count drew = drawn-log a.desk n.desk drew.group drew.drawn
-
-pub have_settled-log : {D : Type 0} (a n : DeskHalfState) (b m : StoreHalfState D) (revision : ℕ) → HaveSettled a n b m revision →
-    log n.desk ≡ log a.desk
-have_settled-log a n b m revision settles = ap log settles.settled ∙ append_assoc a.desk.settled a.desk.drawn a.desk.waiting
 
 -- whatever the call answered
 pub log_then : {D Y E : Type 0} (a n : DeskHalfState) (b m : StoreHalfState D) (X : Type 0) (P : Y → Type 0)

@@ -82,9 +82,6 @@ module _ (K R : RattleType) (k : naming.Ghosts K.Denot) (sr : IsSend R) where
   pub plane_field_sent : IsSync R → IsSend (plane.the_field K R k).row
   plane_field_sent yr = struct_send (shape (plane.the_type K R k)) (Arc-send _ shared_sent (shared_shared yr), tt)
 
-  pub plane_sent : IsSync R → IsSend (plane.the_row K R k)
-  plane_sent yr = recorded_send _ _ _ (plane.the_type K R k).to_one (plane_field_sent yr)
-
 module _ (K D : RattleType) (k : naming.Ghosts K.Denot) (d : disk.Ghosts D.Denot) (sd : IsSend D) where
   lying_sent : IsSend (lying.the_row K D k d)
   lying_sent = let T = lying_inside.the_type K D k d in

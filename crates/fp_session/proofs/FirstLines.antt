@@ -9,7 +9,6 @@ use Rattle.fp_session.specs.Lines.{line_up_to_limit, lines}
 use Rattle.fp_session.specs.Requests.{first_line, first_of, is_left, is_http_line}
 use Rattle.fp_session.specs.Sources.{AskLines}
 use Rattle.fp_session.specs.declared.request.RequestLine.{RequestLine}
-use Rattle.fp_session.specs.declared.request.RequestLine.TheVariants.{Nothing}
 use Rattle.fp_session.proofs.LineLemmas.{IsCutAt, lines-append}
 use Rattle.fp_session.proofs.Readings.{lines-ended, lines-read, lines_at}
 
@@ -20,15 +19,6 @@ pub record IsUnderWay (first now : Option (List ℕ)) (line : List ℕ) (request
   pub held : line ≡ line_up_to_limit came
   pub state : (rest : List ℕ) → is_left request rest ≡ is_http_line (came ++ rest)
   pub read : (input : List ℕ) → first ≡ Some input → (rest : List ℕ) × (now ≡ Some rest) × (input ≡ came ++ rest)
-
-pub first-none : (first : Option (List ℕ)) (line : List ℕ) → line ≡ [] → IsUnderWay first first line Nothing
-first-none first line none = record {
-  came = [];
-  one = refl;
-  held = none;
-  state = λ rest. refl;
-  read = λ input is. (input, is, refl);
-}
 
 module _ (first now then : Option (List ℕ)) (line : List ℕ) (request : RequestLine)
     (u : IsUnderWay first now line request) (bytes : List ℕ) (read : Consumes now then bytes) where

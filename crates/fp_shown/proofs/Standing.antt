@@ -47,9 +47,6 @@ not_end false e es text is end =
 
 -- ---- in order
 
-abbrev Told : Type 0
-Told = List ℕ × List ℕ
-
 below-told : (k : List ℕ) (es : List Entry)
     → below_all bytes_cmp k (map told_of es) ≡ below_all bytes_cmp k es
 below-told k [] = refl
