@@ -44,7 +44,8 @@ and_connections text r = and_counter (and_counter (and_gauge text
     (codes "flagrelay_connections") (codes "Connections that are open.") r.connections)
     (codes "flagrelay_connections_total") (codes "Connections that were let in.")
     r.connections_total)
-    (codes "flagrelay_refused_total") (codes "Connections for which there was no place.")
+    (codes "flagrelay_refused_total")
+    (codes "Connections for which there was no place or no descriptor.")
     r.refused_total
 
 -- what was replied

@@ -64,7 +64,7 @@ fn add_connections(text: &mut Vec<u8>, report: &Report) -> Result<(), AllocError
         help,
         report.connections_total,
     )?;
-    let help = "Connections for which there was no place.";
+    let help = "Connections for which there was no place or no descriptor.";
     add_counter(text, "flagrelay_refused_total", help, report.refused_total)
 }
 
